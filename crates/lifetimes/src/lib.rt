@@ -1,0 +1,2 @@
+//! Lifetime policies: how long a lease is given for.
+pub mod policy;

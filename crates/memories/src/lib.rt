@@ -1,0 +1,2 @@
+//! Memories: words by address, some of which cannot be read.
+pub mod memory;
