@@ -1,0 +1,13 @@
+pub mod Stamps
+pub mod Places
+pub mod State
+pub mod Cores
+pub mod Bank
+pub mod Outs
+pub mod Issues
+pub mod Serves
+pub mod Delivers
+pub mod Evicts
+pub mod Fences
+pub mod Starts
+pub mod Makes

@@ -1,0 +1,3 @@
+//! The rule book: what every call of the machine answers and leaves.
+pub mod record;
+pub mod stamp;
