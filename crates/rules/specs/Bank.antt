@@ -63,6 +63,10 @@ stamp-at b clock a None = kept-stamp b clock (kept-place b a)
 abbrev pub with-line : BankState → ℕ → Line → BankState
 with-line b i l = record { lines = set (b .lines) i l; kept = b .kept; waiting = b .waiting }
 
+-- the kept stamp of an address goes
+abbrev pub unkept : BankState → ℕ → BankState
+unkept b a = record { lines = b .lines; kept = without (b .kept) (kept-place b a); waiting = b .waiting }
+
 -- an unchanged line is made with the address's stamp, and the kept stamp goes
 abbrev pub made : BankState → ℕ → ℕ → ℕ → BankState
 made b clock a v = record {

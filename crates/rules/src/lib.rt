@@ -1,3 +1,4 @@
 //! The rule book: what every call of the machine answers and leaves.
+pub mod addressed;
 pub mod record;
 pub mod stamp;
