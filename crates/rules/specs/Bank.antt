@@ -190,13 +190,22 @@ abbrev pub store-at : BankState → ℕ → ℕ → ℕ → ℕ → Option ℕ �
 store-at b clock w a x (Some i) = store-line b clock w a x i
 store-at b clock w a x None = store-line (made b clock a x) clock w a x (length (b .lines))
 
--- the bank serves a request whose line stands at a place, or is to be made; word is what memory
--- answers, and life the lifetime that the policy answered when it was asked
-abbrev pub bank-serve : BankState → ℕ → ℕ → Result ℕ Fault → Option ℕ → Request → Banked
-bank-serve b clock life word place (request.Load w a) =
+-- life is the lifetime that the policy answered when it was asked
+abbrev pub load-served : BankState → ℕ → ℕ → Result ℕ Fault → Option ℕ → ℕ → ℕ → Banked
+load-served b clock life word place w a =
     load-fetched clock (clock + life) w a (isSome place) (fetch b clock a word place .bank) (fetch b clock a word place .place)
-bank-serve b clock life word place (request.Store w a x) = store-at b clock w a x place
-bank-serve b clock life word place (request.Add w a x) =
-    add-fetched clock w a x (fetch b clock a word place .bank) (fetch b clock a word place .place)
-bank-serve b clock life word place (request.Exchange w a x) =
+
+abbrev pub add-served : BankState → ℕ → Result ℕ Fault → Option ℕ → ℕ → ℕ → ℕ → Banked
+add-served b clock word place w a x = add-fetched clock w a x (fetch b clock a word place .bank) (fetch b clock a word place .place)
+
+abbrev pub exchange-served : BankState → ℕ → Result ℕ Fault → Option ℕ → ℕ → ℕ → ℕ → Banked
+exchange-served b clock word place w a x =
     exchange-fetched clock w a x (fetch b clock a word place .bank) (fetch b clock a word place .place)
+
+-- the bank serves a request whose line stands at a place, or is to be made; word is what memory
+-- answers at the request's address
+abbrev pub bank-serve : BankState → ℕ → ℕ → Result ℕ Fault → Option ℕ → Request → Banked
+bank-serve b clock life word place (request.Load w a) = load-served b clock life word place w a
+bank-serve b clock life word place (request.Store w a x) = store-at b clock w a x place
+bank-serve b clock life word place (request.Add w a x) = add-served b clock word place w a x
+bank-serve b clock life word place (request.Exchange w a x) = exchange-served b clock word place w a x
