@@ -171,6 +171,14 @@ impl Core {
             Answer::Fault { .. } => {}
         }
     }
+
+    /// Takes the oldest pending request, and does what the answer to it changes.
+    pub fn take_and_hand(&mut self, clock: u32, request: Request, answer: Answer)
+        ensures { λ _. ⌜ core-state (now (self .exit)) ≡ handed (took (core-state (now (self .entry)))) clock request answer ⌝ }
+    {
+        self.take();
+        self.hand(clock, request, answer);
+    }
 }
 
 /// What an answer to the request hands to the core.

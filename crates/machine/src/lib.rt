@@ -1,0 +1,3 @@
+//! The machine over any two nets, memory and lifetime policy.
+pub mod checks;
+pub mod tables;
