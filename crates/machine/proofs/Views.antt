@@ -5,8 +5,10 @@ use Prim.Native.Nat.{ℕ, _<_}
 use native.Mathlib.Omega.{arith}
 use lib.ListN.{length, getD, set, length-map}
 use lib.Seq.{map-set}
-use Rattle.std.proofs.shelf.Lists.{getD-map}
+use Rattle.std.proofs.shelf.Lists.{getD-map, nil-from-length}
 use Rattle.std.specs.Of.Vec.{vec-items, vec-len}
+use Rattle.std.specs.declared.alloc.Global.{Global}
+use Rattle.std.specs.declared.vec.Vec.{Vec}
 use Rattle.cores.specs.declared.core_table.Core.{Core}
 use Rattle.cores.specs.CoreView.{core-state}
 use Rattle.bank.specs.BankView.{bank-state}
@@ -31,3 +33,7 @@ pub core-set : (t : Tables) (k : ℕ) (c : Core) →
 core-set t k c =
     ap {A = List CoreState} {B = TablesState} (λ xs. record { clock = t .clock; protocol = t .protocol; cores = xs; bank = bank-state (t .bank) })
     (map-set core-state (vec-items (t .cores)) k c)
+
+-- a Vec of no elements
+pub no-items : {X : Type 0} (v : Vec X Global) → vec-len v ≡ 0 → vec-items v ≡ []
+no-items v e = nil-from-length (vec-items v) (omega (arith, v .ok .0, e))

@@ -1,3 +1,4 @@
 //! The machine over any two nets, memory and lifetime policy.
 pub mod checks;
+pub mod starts;
 pub mod tables;
