@@ -1,1 +1,2 @@
+pub mod LaneTests
 pub mod Views

@@ -17,7 +17,7 @@ use messages::request::Request;
 
 impl Tables {
     /// How many cores there are.
-    pub fn count(&self) -> usize
+    pub(crate) fn count(&self) -> usize
         ensures { λ r. ⌜ r ≡ length (tables-state (now (self .entry)) .cores) ⌝ }
     {
         self.cores.len()
@@ -32,7 +32,13 @@ impl Tables {
     }
 
     /// The first checks of issuing: cause 1, then 2, then 3.
-    pub fn issue_check(&self, size: u32, core: u32, wave: u32, address: u32) -> Result<(), Refusal>
+    pub(crate) fn issue_check(
+        &self,
+        size: u32,
+        core: u32,
+        wave: u32,
+        address: u32,
+    ) -> Result<(), Refusal>
         ensures { λ r. ⌜ r ≡ issue-check (tables-state (now (self .entry))) size core wave address ⌝ }
     {
         if core as usize >= self.count() || wave >= 48 {
@@ -48,7 +54,7 @@ impl Tables {
     }
 
     /// The value of a running copy, where no request on the address is pending.
-    pub fn hit(&self, core: u32, address: u32) -> Option<u32>
+    pub(crate) fn hit(&self, core: u32, address: u32) -> Option<u32>
         requires { ⌜ core < length (tables-state (now self) .cores) ⌝ }
         ensures { λ r. ⌜ r ≡ hit (core-at (tables-state (now (self .entry))) core) (now (self .entry) .clock) address ⌝ }
     {
@@ -56,7 +62,7 @@ impl Tables {
     }
 
     /// Cause 4: 32 requests are pending.
-    pub fn room_check(&self, core: u32) -> Result<(), Refusal>
+    pub(crate) fn room_check(&self, core: u32) -> Result<(), Refusal>
         requires { ⌜ core < length (tables-state (now self) .cores) ⌝ }
         ensures { λ r. ⌜ r ≡ room-check (tables-state (now (self .entry))) core ⌝ }
     {
@@ -67,7 +73,7 @@ impl Tables {
     }
 
     /// Notes a request of a core; a store or atomic drops the copy of its address.
-    pub fn issue(&mut self, core: u32, request: Request)
+    pub(crate) fn issue(&mut self, core: u32, request: Request)
         requires { ⌜ core < length (tables-state (now self) .cores) ⌝ ∗ ⌜ length (core-at (tables-state (now self)) core .pending) < 32 ⌝ }
         ensures { λ _. ⌜ tables-state (now (self .exit)) ≡ with-core (tables-state (now (self .entry))) core (issued (core-at (tables-state (now (self .entry))) core) request) ⌝ }
     {
@@ -75,7 +81,7 @@ impl Tables {
     }
 
     /// The oldest pending request of a core.
-    pub fn oldest(&self, core: u32) -> Option<Request>
+    pub(crate) fn oldest(&self, core: u32) -> Option<Request>
         requires { ⌜ core < length (tables-state (now self) .cores) ⌝ }
         ensures { λ r. ⌜ r ≡ oldest (core-at (tables-state (now (self .entry))) core .pending) ⌝ }
     {
@@ -83,7 +89,7 @@ impl Tables {
     }
 
     /// Takes the oldest pending request of a core, and does what the answer to it changes.
-    pub fn hand(&mut self, core: u32, request: Request, answer: Answer)
+    pub(crate) fn hand(&mut self, core: u32, request: Request, answer: Answer)
         requires { ⌜ core < length (tables-state (now self) .cores) ⌝ }
         ensures { λ _. ⌜ tables-state (now (self .exit)) ≡ handed-at (tables-state (now (self .entry))) core request answer ⌝ }
     {

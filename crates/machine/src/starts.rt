@@ -8,7 +8,7 @@ ghost use Rattle.std.specs.Of.Vec.{vec-items, vec-len, vec-cap};
 ghost use Rattle.lifetimes.specs.Told.{Told};
 ghost use Rattle.cores.specs.CoreView.{core-state};
 ghost use Rattle.rules.specs.Cores.{fresh-core};
-ghost use Rattle.rules.specs.Starts.{fresh-tables, started, ready, start-step, tick-step};
+ghost use Rattle.rules.specs.Starts.{fresh-tables, started, lanes-empty, ready, start-step, tick-step};
 ghost use Rattle.machine.specs.View.{tables-state, net-state, view};
 use crate::tables::Machine;
 use crate::tables::Tables;
@@ -90,5 +90,77 @@ impl Tables {
             spare,
             bank,
         })
+    }
+}
+
+/// Whether a net is empty and takes messages.
+fn is_ready<X, N: LaneNet<X>>(net: &N) -> bool
+    ensures { λ r. ⌜ r ≡ ready (net-state N·LaneNet (now (net .entry))) ⌝ }
+{
+    net.depth() >= 1 && lanes_empty(net)
+}
+
+/// Whether all 16 lanes of a net are empty.
+fn lanes_empty<X, N: LaneNet<X>>(net: &N) -> bool
+    ensures { λ r. ⌜ r ≡ lanes-empty (N·LaneNet .lanes (now (net .entry))) 16 ⌝ }
+{
+    let mut empty = true;
+    for k in 0..16u32 {
+        empty = empty && net.count(k) == 0;
+    }
+    empty
+}
+
+impl<Q: Drop, R: Drop, M: Drop, P: Drop> Machine<Q, R, M, P> {
+    /// A machine that has not been started; its tables have all their room.
+    pub fn new(
+        requests: Q,
+        answers: R,
+        memory: M,
+        policy: P,
+        heap: Global,
+    ) -> Result<Self, AllocError>
+        ensures parts { λ r. ⌜ made r (λ m. (m .requests ≡ requests) × (m .answers ≡ answers) × (m .memory ≡ memory) × (m .policy ≡ policy)) ⌝ }
+        ensures fresh { λ r. ⌜ made r (λ m. tables-state (m .tables) ≡ fresh-tables) ⌝ }
+    {
+        let tables = Tables::new(heap)?;
+        Ok(Machine {
+            requests,
+            answers,
+            memory,
+            policy,
+            tables,
+        })
+    }
+}
+
+impl<Q: LaneNet<Request>, R: LaneNet<Answer>, M: Memory, P: LifetimePolicy> Machine<Q, R, M, P> {
+    /// Starts the machine with cores 0 to `cores` - 1.
+    pub fn start(&mut self, cores: u32, protocol: Protocol) -> Result<(), Refusal>
+        ensures answer { λ r. ⌜ r ≡ start-step (view Q·LaneNet R·LaneNet M·Memory (now (self .entry))) cores protocol .answer ⌝ }
+        ensures after { λ _. ⌜ view Q·LaneNet R·LaneNet M·Memory (now (self .exit)) ≡ start-step (view Q·LaneNet R·LaneNet M·Memory (now (self .entry))) cores protocol .after ⌝ }
+        ensures told { λ _. ⌜ Told (P·LifetimePolicy .heard) (now (self .entry) .policy) (start-step (view Q·LaneNet R·LaneNet M·Memory (now (self .entry))) cores protocol .events) (now (self .exit) .policy) ⌝ }
+    {
+        if cores == 0 || cores > 16 || self.tables.count() != 0 {
+            return Err(Refusal::CannotStart);
+        }
+        if !is_ready(&self.requests) || !is_ready(&self.answers) {
+            return Err(Refusal::CannotStart);
+        }
+        self.tables.start(cores, protocol);
+        Ok(())
+    }
+
+    /// The clock goes on by one: the clock after it.
+    pub fn tick(&mut self) -> Result<u32, Refusal>
+        ensures answer { λ r. ⌜ r ≡ tick-step (view Q·LaneNet R·LaneNet M·Memory (now (self .entry))) .answer ⌝ }
+        ensures after { λ _. ⌜ view Q·LaneNet R·LaneNet M·Memory (now (self .exit)) ≡ tick-step (view Q·LaneNet R·LaneNet M·Memory (now (self .entry))) .after ⌝ }
+        ensures told { λ _. ⌜ Told (P·LifetimePolicy .heard) (now (self .entry) .policy) (tick-step (view Q·LaneNet R·LaneNet M·Memory (now (self .entry))) .events) (now (self .exit) .policy) ⌝ }
+    {
+        if self.tables.clock >= CLOCK_END {
+            return Err(Refusal::ClockAtEnd);
+        }
+        self.tables.clock += 1;
+        Ok(self.tables.clock)
     }
 }

@@ -50,6 +50,9 @@ send-by s core q x (Ok _) = answered
 abbrev pub send : {X : Type 0} → State → ℕ → Request → X → Out X
 send s core q x = send-by s core q x (put-answer (s .requests .lanes) (s .requests .depth) core)
 
+abbrev pub sends : State → ℕ → Request → Out Unit
+sends s core q = send s core q tt
+
 abbrev pub room-by : {X : Type 0} → State → ℕ → Request → X → Result Unit Refusal → Out X
 room-by s core q x (Err e) = refused s e
 room-by s core q x (Ok _) = send s core q x

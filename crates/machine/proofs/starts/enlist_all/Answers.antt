@@ -13,12 +13,11 @@ pub loop-holds : need.loop-holds
 loop-holds c = (ap (map core-state) (no-items (c .args .cores .now) (c .pre .0)), c .pre .0, refl, omega arith)
 
 pub loop-again : need.loop-again
-loop-again c =
-    (
-      c .enlist .ensures .items
+loop-again c = (
+  c .enlist .ensures .items
       ∙ ap {A = List CoreState} (λ xs. xs ++ fresh-core ∷ []) (c .loop .inv .0)
       ∙ replicate-more (c .loop .counter) fresh-core,
-      omega (arith, c .enlist .ensures .len, c .loop .inv .1),
-      omega (arith, c .enlist .ensures .room, c .loop .inv .2),
-      omega (arith, c .enlist .ensures .left, c .loop .inv .3)
-    )
+  omega (arith, c .enlist .ensures .len, c .loop .inv .1),
+  omega (arith, c .enlist .ensures .room, c .loop .inv .2),
+  omega (arith, c .enlist .ensures .left, c .loop .inv .3),
+)
