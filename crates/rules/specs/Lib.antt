@@ -11,3 +11,4 @@ pub mod Evicts
 pub mod Fences
 pub mod Starts
 pub mod Makes
+pub mod TickCases
