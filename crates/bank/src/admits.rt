@@ -13,7 +13,7 @@ use messages::request::Request;
 use rules::stamp::runs;
 
 /// Under TC-Strong a store or atomic waits for the lease to end.
-pub fn must_wait(protocol: Protocol, request: Request) -> bool
+pub(crate) fn must_wait(protocol: Protocol, request: Request) -> bool
     ensures { λ r. ⌜ r ≡ must-wait protocol request ⌝ }
 {
     match protocol {

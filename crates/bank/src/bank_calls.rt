@@ -20,7 +20,7 @@ use std::alloc::AllocError;
 use std::alloc::Global;
 
 /// A stamp that runs, else 0.
-pub fn live(stamp: u32, clock: u32) -> u32
+pub(crate) fn live(stamp: u32, clock: u32) -> u32
     ensures { λ r. ⌜ r ≡ live stamp clock ⌝ }
 {
     if runs(stamp, clock) { stamp } else { 0 }
@@ -37,7 +37,7 @@ fn waits_on(mark: Option<u32>, address: u32) -> bool
 }
 
 /// Whether some lane waits on the address.
-pub fn any_waits(marks: &[Option<u32>], address: u32) -> bool
+pub(crate) fn any_waits(marks: &[Option<u32>], address: u32) -> bool
     ensures { λ r. ⌜ r ≡ any (waits-on address) (now (marks .entry)) ⌝ }
 {
     for m in marks {
@@ -63,7 +63,7 @@ impl Bank {
     }
 
     /// The place of an address's line.
-    pub fn line_place(&self, address: u32) -> Option<usize>
+    pub(crate) fn line_place(&self, address: u32) -> Option<usize>
         ensures value { λ r. ⌜ r ≡ line-place (bank-state (now (self .entry))) address ⌝ }
         ensures inside { λ r. ⌜ BySome r (Unit {0}) (λ i. i < vec-len (now (self .entry) .lines)) ⌝ }
     {
@@ -71,7 +71,7 @@ impl Bank {
     }
 
     /// The running kept stamp of an address, else 0.
-    pub fn kept_stamp(&self, address: u32, clock: u32) -> u32
+    pub(crate) fn kept_stamp(&self, address: u32, clock: u32) -> u32
         ensures { λ r. ⌜ r ≡ kept-stamp (bank-state (now (self .entry))) clock (kept-place (bank-state (now (self .entry))) address) ⌝ }
     {
         match place_of(self.kept.as_slice(), address) {
@@ -81,7 +81,7 @@ impl Bank {
     }
 
     /// The stamp of an address whose line stands at a place, or that has none.
-    pub fn stamp_at(&self, place: Option<usize>, address: u32, clock: u32) -> u32
+    pub(crate) fn stamp_at(&self, place: Option<usize>, address: u32, clock: u32) -> u32
         requires { ⌜ BySome place (Unit {0}) (λ i. i < vec-len (now self .lines)) ⌝ }
         ensures { λ r. ⌜ r ≡ stamp-at (bank-state (now (self .entry))) clock address place ⌝ }
     {
@@ -101,7 +101,7 @@ impl Bank {
     }
 
     /// Makes an unchanged line with the address's stamp, and answers its place; the kept stamp goes.
-    pub fn make_line(&mut self, address: u32, value: u32, clock: u32) -> usize
+    pub(crate) fn make_line(&mut self, address: u32, value: u32, clock: u32) -> usize
         requires { ⌜ vec-len (now self .lines) < 256 ⌝ }
         ensures value { λ r. ⌜ r ≡ length (bank-state (now (self .entry)) .lines) ⌝ }
         ensures after { λ r. ⌜ bank-state (now (self .exit)) ≡ made (bank-state (now (self .entry))) clock address value ⌝ }
@@ -120,7 +120,7 @@ impl Bank {
     }
 
     /// Puts a line at a place.
-    pub fn set_line(&mut self, at: usize, line: Line)
+    pub(crate) fn set_line(&mut self, at: usize, line: Line)
         requires { ⌜ at < vec-len (now self .lines) ⌝ }
         ensures after { λ _. ⌜ bank-state (now (self .exit)) ≡ with-line (bank-state (now (self .entry))) at line ⌝ }
     {
@@ -128,7 +128,7 @@ impl Bank {
     }
 
     /// The line at a place.
-    pub fn line_at(&self, at: usize) -> Line
+    pub(crate) fn line_at(&self, at: usize) -> Line
         requires { ⌜ at < vec-len (now self .lines) ⌝ }
         ensures { λ r. ⌜ r ≡ line-at (bank-state (now (self .entry))) at ⌝ }
     {
@@ -146,7 +146,7 @@ impl Bank {
     }
 
     /// The stamp that a load gives: raised, unless a lane waits on the address.
-    pub fn leased(&self, until: u32, address: u32, stamp: u32) -> u32
+    pub(crate) fn leased(&self, until: u32, address: u32, stamp: u32) -> u32
         ensures { λ r. ⌜ r ≡ leased (bank-state (now (self .entry))) until address stamp ⌝ }
     {
         if any_waits(&self.waiting, address) {

@@ -10,9 +10,9 @@ use rules::record::Line;
 /// oldest request was told to wait.
 #[derive(Drop)]
 pub struct Bank {
-    pub lines: Vec<Line>,
-    pub kept: Vec<KeptStamp>,
-    pub waiting: [Option<u32>; 16],
+    pub(crate) lines: Vec<Line>,
+    pub(crate) kept: Vec<KeptStamp>,
+    pub(crate) waiting: [Option<u32>; 16],
     ghost room: { 256 ≤ vec-cap lines },
     ghost shelf: { 128 ≤ vec-cap kept },
     ghost lanes: { length waiting ≡ 16 },

@@ -24,7 +24,7 @@ use rules::record::Line;
 use rules::stamp::runs;
 
 /// Tells the policy of an event that may have happened.
-pub fn tell_when<P: LifetimePolicy>(policy: &mut P, happened: bool, event: Event)
+pub(crate) fn tell_when<P: LifetimePolicy>(policy: &mut P, happened: bool, event: Event)
     ensures { λ _. ⌜ Told (P·LifetimePolicy .heard) (now (policy .entry)) (cond happened (event ∷ []) []) (now (policy .exit)) ⌝ }
 {
     if happened {
@@ -34,7 +34,7 @@ pub fn tell_when<P: LifetimePolicy>(policy: &mut P, happened: bool, event: Event
 
 impl Bank {
     /// The place of an address's line; a missing one is made from memory's word.
-    pub fn fetch<M: Memory>(
+    pub(crate) fn fetch<M: Memory>(
         &mut self,
         memory: &M,
         place: Option<usize>,
@@ -56,7 +56,7 @@ impl Bank {
     }
 
     /// A load of the line at a place; `met` says that the line was there before.
-    pub fn load_line<P: LifetimePolicy>(
+    pub(crate) fn load_line<P: LifetimePolicy>(
         &mut self,
         policy: &mut P,
         at: usize,
@@ -110,7 +110,7 @@ impl Bank {
     }
 
     /// A store into the line at a place.
-    pub fn store_line<P: LifetimePolicy>(
+    pub(crate) fn store_line<P: LifetimePolicy>(
         &mut self,
         policy: &mut P,
         at: usize,
@@ -134,7 +134,7 @@ impl Bank {
     }
 
     /// An atomic on the line at a place, which gets a new value and answers its old one.
-    pub fn atomic_line<P: LifetimePolicy>(
+    pub(crate) fn atomic_line<P: LifetimePolicy>(
         &mut self,
         policy: &mut P,
         at: usize,

@@ -16,17 +16,18 @@ pub enum Loaded {
 /// What a delivery hands to the core: wave and address are those of its oldest pending request.
 #[derive(Clone, Copy, PartialEq, Eq, Debug)]
 pub enum Delivered {
-    /// a load's word
+    /// kind 1: a load's word
     Load { wave: u32, address: u32, value: u32 },
-    /// a store was served
+    /// kind 2: a store was served
     Store { wave: u32, address: u32 },
-    /// an atomic was served: the word before it
+    /// kind 3: an atomic was served; the word before it
     Atomic { wave: u32, address: u32, value: u32 },
-    /// the word was unreadable (cause 11): the block that was, and the address that the core named
+    /// kind 4: the word was unreadable (cause 11); the block that was, and the address that the core named
     Fault { wave: u32, address: u32, block: u32 },
 }
 
-/// What a call comes to.
+/// What a call comes to. In a script's output: `started`, `load`, `sent`, `served`, what was
+/// delivered (`load`, `store`, `atomic` or `fault`), `tick`, `refused` with the cause's number.
 #[derive(Clone, Copy, PartialEq, Eq, Debug)]
 pub enum Outcome {
     /// Start: the machine runs

@@ -1,11 +1,13 @@
 //! What a core's tables answer, and how they change.
 ghost use Prim.Native.Nat.{ℕ, _<_};
 ghost use mathlib.Core.Path.{_≡_};
+ghost use lib.Dec.{leb};
+ghost use lib.ListN.{length};
 ghost use Rattle.std.specs.Of.Vec.{vec-len};
 ghost use Rattle.std.specs.Vec.{made};
 ghost use Rattle.lanes.specs.Lanes.{oldest};
 ghost use Rattle.rules.specs.Places.{any};
-ghost use Rattle.rules.specs.Cores.{fresh-core, writes-on, hit, dropped, noted, issued, took, filled, raised, handed, delivery};
+ghost use Rattle.rules.specs.Cores.{fresh-core, fenced, writes-on, hit, dropped, noted, issued, took, filled, raised, handed, delivery};
 ghost use Rattle.cores.specs.CoreView.{core-state};
 use crate::core_table::Core;
 use calls::outcome::Delivered;
@@ -26,7 +28,7 @@ fn writes_on(request: Request, address: u32) -> bool
 }
 
 /// Whether a store or atomic on the address is among the requests.
-pub fn any_write_on(requests: &[Request], address: u32) -> bool
+pub(crate) fn any_write_on(requests: &[Request], address: u32) -> bool
     ensures { λ r. ⌜ r ≡ any (writes-on address) (now (requests .entry)) ⌝ }
 {
     for r in requests {
@@ -61,6 +63,24 @@ impl Core {
         self.fences = [false; 48];
     }
 
+    /// Whether 32 requests are pending.
+    pub fn is_full(&self) -> bool
+        ensures { λ r. ⌜ r ≡ leb 32 (length (core-state (now (self .entry)) .pending)) ⌝ }
+    {
+        self.pending.len() >= 32
+    }
+
+    /// Whether a wave's fence is open.
+    pub fn is_fenced(&self, wave: u32) -> bool
+        ensures { λ r. ⌜ r ≡ fenced (core-state (now (self .entry))) wave ⌝ }
+    {
+        let w = wave as usize;
+        if w >= 48 {
+            return false;
+        }
+        self.fences[w]
+    }
+
     /// The value of a running copy, where no request on the address is pending.
     pub fn hit(&self, address: u32, clock: u32) -> Option<u32>
         ensures { λ r. ⌜ r ≡ hit (core-state (now (self .entry))) clock address ⌝ }
@@ -81,7 +101,7 @@ impl Core {
     }
 
     /// Notes a request as the youngest pending one.
-    pub fn note(&mut self, request: Request)
+    pub(crate) fn note(&mut self, request: Request)
         requires { ⌜ vec-len (now self .pending) < 32 ⌝ }
         ensures { λ _. ⌜ core-state (now (self .exit)) ≡ noted (core-state (now (self .entry))) request ⌝ }
     {
@@ -89,7 +109,7 @@ impl Core {
     }
 
     /// Drops the copy of an address, running or not.
-    pub fn drop_copy(&mut self, address: u32)
+    pub(crate) fn drop_copy(&mut self, address: u32)
         ensures { λ _. ⌜ core-state (now (self .exit)) ≡ dropped (core-state (now (self .entry))) address ⌝ }
     {
         let place = (address % 64) as usize;
@@ -102,7 +122,7 @@ impl Core {
 
     /// Notes a request; a store or atomic first drops the copy of its address.
     pub fn issue(&mut self, request: Request)
-        requires { ⌜ vec-len (now self .pending) < 32 ⌝ }
+        requires { ⌜ length (core-state (now self) .pending) < 32 ⌝ }
         ensures { λ _. ⌜ core-state (now (self .exit)) ≡ issued (core-state (now (self .entry))) request ⌝ }
     {
         if request.writes() {
@@ -122,7 +142,7 @@ impl Core {
     }
 
     /// Removes the oldest pending request, if there is one.
-    pub fn take(&mut self)
+    pub(crate) fn take(&mut self)
         ensures { λ _. ⌜ core-state (now (self .exit)) ≡ took (core-state (now (self .entry))) ⌝ }
     {
         if !self.pending.is_empty() {
@@ -132,7 +152,7 @@ impl Core {
 
     /// Makes a copy of a load's value, if its stamp runs and no store or atomic on the address is
     /// pending.
-    pub fn fill(&mut self, copy: LeasedCopy, clock: u32)
+    pub(crate) fn fill(&mut self, copy: LeasedCopy, clock: u32)
         ensures { λ _. ⌜ core-state (now (self .exit)) ≡ filled (core-state (now (self .entry))) clock (copy .address) (copy .value) (copy .stamp) ⌝ }
     {
         if runs(copy.stamp, clock) && !any_write_on(self.pending.as_slice(), copy.address) {
@@ -141,7 +161,7 @@ impl Core {
     }
 
     /// Raises a wave's visible-by stamp to the larger.
-    pub fn raise(&mut self, wave: u32, stamp: u32)
+    pub(crate) fn raise(&mut self, wave: u32, stamp: u32)
         ensures { λ _. ⌜ core-state (now (self .exit)) ≡ raised (core-state (now (self .entry))) wave stamp ⌝ }
     {
         let w = wave as usize;
@@ -151,7 +171,7 @@ impl Core {
     }
 
     /// Does what an answer to the request changes.
-    pub fn hand(&mut self, clock: u32, request: Request, answer: Answer)
+    pub(crate) fn hand(&mut self, clock: u32, request: Request, answer: Answer)
         ensures { λ _. ⌜ core-state (now (self .exit)) ≡ handed (core-state (now (self .entry))) clock request answer ⌝ }
     {
         match answer {

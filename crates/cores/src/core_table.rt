@@ -10,10 +10,10 @@ use rules::record::LeasedCopy;
 /// stamp and whether a fence is open.
 #[derive(Drop)]
 pub struct Core {
-    pub copies: [Option<LeasedCopy>; 64],
-    pub pending: Vec<Request>,
-    pub visible: [u32; 48],
-    pub fences: [bool; 48],
+    pub(crate) copies: [Option<LeasedCopy>; 64],
+    pub(crate) pending: Vec<Request>,
+    pub(crate) visible: [u32; 48],
+    pub(crate) fences: [bool; 48],
     ghost room: { 32 ≤ vec-cap pending },
     ghost places: { length copies ≡ 64 },
     ghost waves: { length visible ≡ 48 },

@@ -8,9 +8,10 @@ ghost use Rattle.lifetimes.specs.declared.policy.Event.{Event};
 pub enum Event {
     /// a line left the bank with a running stamp
     LeftRunning,
-    /// a load met an existing line whose stamp is over
+    /// a load met an existing line whose stamp is over, be it 0; not a line that this load made
     LoadMetOver,
-    /// a store or atomic met a running stamp
+    /// a store or atomic met a running stamp, the line's or a kept one; never under TC-Strong, where
+    /// such a request is refused and nothing is told
     WriteMetRunning,
 }
 

@@ -47,7 +47,7 @@ impl Tables {
         if address >= size {
             return Err(Refusal::UnknownAddress);
         }
-        if self.core_at(core).fences[wave as usize] {
+        if self.core_at(core).is_fenced(wave) {
             return Err(Refusal::FenceOpen);
         }
         Ok(())
@@ -66,7 +66,7 @@ impl Tables {
         requires { ⌜ core < length (tables-state (now self) .cores) ⌝ }
         ensures { λ r. ⌜ r ≡ room-check (tables-state (now (self .entry))) core ⌝ }
     {
-        if self.core_at(core).pending.len() >= 32 {
+        if self.core_at(core).is_full() {
             return Err(Refusal::PendingFull);
         }
         Ok(())

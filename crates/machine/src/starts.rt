@@ -77,7 +77,7 @@ impl Tables {
     }
 
     /// Tables with all their room reserved, and no cores yet.
-    pub fn new(heap: Global) -> Result<Tables, AllocError>
+    pub(crate) fn new(heap: Global) -> Result<Tables, AllocError>
         ensures { λ r. ⌜ made r (λ t. tables-state t ≡ fresh-tables) ⌝ }
     {
         let bank = Bank::new(heap)?;

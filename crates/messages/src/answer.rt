@@ -3,7 +3,8 @@
 /// An answer to a request. Its first word is its kind: 1 load, 2 store, 3 atomic, 4 fault.
 #[derive(Clone, Copy, PartialEq, Eq, Debug)]
 pub enum Answer {
-    /// kind 1: the word, and the stamp up to which a copy of it is good
+    /// kind 1: the word, and the stamp up to which a copy of it is good (while a store waits on the
+    /// address, that stamp may be over)
     Load {
         wave: u32,
         address: u32,

@@ -16,7 +16,7 @@ pub enum Request {
         address: u32,
         operand: u32,
     },
-    /// kind 3, an atomic: the operand is added to the word, modulo 2^32
+    /// kind 3, an atomic: the operand is added to the word, modulo 2^32, and the old word is answered
     Add {
         wave: u32,
         address: u32,

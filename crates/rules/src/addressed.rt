@@ -30,7 +30,8 @@ pub impl Addressed for KeptStamp as KeptAddressed {
     ghost named = { λ k. k .address };
 
     fn address_of(&self) -> u32 {
-        self.address
+        let KeptStamp { address, .. } = *self;
+        address
     }
 }
 

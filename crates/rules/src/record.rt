@@ -8,8 +8,8 @@ pub struct LeasedCopy {
     pub stamp: u32,
 }
 
-/// A line of the bank: the word of an address, the stamp of its latest lease, and whether the word
-/// differs from memory's.
+/// A line of the bank: the word of an address, the stamp of its latest lease, and whether a store or
+/// atomic was served on it since it was made.
 #[derive(Clone, Copy, PartialEq, Eq, Debug)]
 pub struct Line {
     pub address: u32,
