@@ -22,7 +22,8 @@ pub impl Addressed for Line as LineAddressed {
     ghost named = { λ l. l .address };
 
     fn address_of(&self) -> u32 {
-        self.address
+        let Line { address, .. } = *self;
+        address
     }
 }
 
