@@ -1,0 +1,45 @@
+use mathlib.Core.Path.{_≡_, refl, sym, ap, _∙_}
+use mathlib.Core.Bool.{Bool, true, false, cond}
+use mathlib.Core.List.{List, [], _∷_}
+use Prim.Native.Nat.{ℕ, zero, suc, _+_, _<_, _≤_}
+use native.Mathlib.Omega.{arith}
+use lib.Dec.{eqb}
+use lib.ListN.{length, getD, take, drop}
+use Rattle.std.proofs.shelf.Tests.{eq-eqb, ne-eqb}
+use Rattle.std.specs.declared.option.Option.{Option}
+use Rattle.std.specs.declared.option.Option.the-variants.{None, Some}
+use Rattle.script.specs.Fields.{onto, split, left, end}
+
+-- byte b stands at none of the first n places
+abbrev pub Absent : ℕ → List ℕ → ℕ → Type 0
+Absent b bs n = (k : ℕ) → k < n → getD bs k 0 ≡ b → ⊥
+
+-- place i is the first of byte b
+abbrev pub First : ℕ → List ℕ → ℕ → Type 0
+First b bs i = (i < length bs) × (getD bs i 0 ≡ b) × Absent b bs i
+
+-- where byte b is absent, there is one part
+pub split-none : (b : ℕ) (xs : List ℕ) → Absent b xs (length xs) → split b xs ≡ xs ∷ []
+split-none b [] h = refl
+split-none b (x ∷ xs) h =
+    rw (ne-eqb x b (h 0 (omega arith)))
+    (ap (onto x) (split-none b xs (λ k l. h (suc k) (omega arith))))
+
+-- else the first part ends at its first place
+pub split-first : (b : ℕ) (xs : List ℕ) (i : ℕ) → First b xs i → split b xs ≡ take i xs ∷ split b (drop (suc i) xs)
+split-first b [] i h = absurd (omega (arith, h .0))
+split-first b (x ∷ xs) zero h = rw (eq-eqb x b (h .1)) refl
+split-first b (x ∷ xs) (suc i) h =
+    rw (ne-eqb x b (h .2 0 (omega arith)))
+    (ap (onto x) (split-first b xs i (omega (arith, h .0), h .1, λ k l. h .2 (suc k) (omega arith))))
+
+end-onto : {A : Type 0} (y : A) (x : ℕ) (ps : List (List ℕ)) → end y (onto x ps) ≡ None
+end-onto y x [] = refl
+end-onto y x (p ∷ ps) = refl
+
+-- there is a part
+pub end-split : {A : Type 0} (y : A) (b : ℕ) (xs : List ℕ) → end y (split b xs) ≡ None
+end-split y b [] = refl
+end-split y b (x ∷ xs) =
+    elim (eqb x b) as (λ t. end y (cond t ([] ∷ split b xs) (onto x (split b xs))) ≡ None)
+    [ true ↦ refl | false ↦ end-onto y x (split b xs) ]

@@ -1,0 +1,4 @@
+//! The lines of a script as calls, and the lines that tell their outcomes.
+mod bytes;
+mod fields;
+pub mod line;
