@@ -16,7 +16,7 @@ use Rattle.script.specs.Fields.{digits, word, number, bind}
 
 -- a digit at place i is read
 pub digits-more : (n i : ℕ) (f : List ℕ) → i < length f → 48 ≤ getD f i 0 → getD f i 0 ≤ 57
-  → digits n (drop i f) ≡ digits (n * 10 + (getD f i 0 - 48)) (drop (i + 1) f)
+    → digits n (drop i f) ≡ digits (n * 10 + (getD f i 0 - 48)) (drop (i + 1) f)
 digits-more n i f h low high =
     rw (drop-cons f i 0, add-one)
     (cond-true _ _ _ (and-from _ _ (le-leb 48 (getD f i 0) low) (le-leb (getD f i 0) 57 high)))
@@ -35,7 +35,7 @@ number-within f low high = cond-true _ _ _ (and-from _ _ (lt-ltb 0 (length f) lo
 
 -- one whose digits are read up to place i, where another byte stands
 pub number-stop : (n i : ℕ) (f : List ℕ) → 1 ≤ length f → length f ≤ 10 → digits 0 f ≡ digits n (drop i f) → i < length f
-  → (getD f i 0 < 48) ⊎ (57 < getD f i 0) → number f ≡ None
+    → (getD f i 0 < 48) ⊎ (57 < getD f i 0) → number f ≡ None
 number-stop n i f low high e h s = number-within f low high ∙ ap (λ o. bind o word) (e ∙ digits-stop n i f h s)
 
 -- one whose digits are all read

@@ -8,7 +8,8 @@ use lib.ListN.{length, getD, take, drop}
 use Rattle.std.proofs.shelf.Tests.{eq-eqb, ne-eqb}
 use Rattle.std.specs.declared.option.Option.{Option}
 use Rattle.std.specs.declared.option.Option.the-variants.{None, Some}
-use Rattle.script.specs.Fields.{onto, split, left, end}
+use Rattle.script.specs.Fields.{onto, split, first, others, end}
+use Rattle.script.specs.Lines.{parse-line, calls-of, script}
 
 -- byte b stands at none of the first n places
 abbrev pub Absent : ℕ → List ℕ → ℕ → Type 0
@@ -33,13 +34,22 @@ split-first b (x ∷ xs) (suc i) h =
     rw (ne-eqb x b (h .2 0 (omega arith)))
     (ap (onto x) (split-first b xs i (omega (arith, h .0), h .1, λ k l. h .2 (suc k) (omega arith))))
 
-end-onto : {A : Type 0} (y : A) (x : ℕ) (ps : List (List ℕ)) → end y (onto x ps) ≡ None
-end-onto y x [] = refl
-end-onto y x (p ∷ ps) = refl
+onto-cons : (x : ℕ) (ps : List (List ℕ)) → onto x ps ≡ first (onto x ps) ∷ others (onto x ps)
+onto-cons x [] = refl
+onto-cons x (p ∷ ps) = refl
 
--- there is a part
+-- there is a first part
+split-cons : (b : ℕ) (xs : List ℕ) → split b xs ≡ first (split b xs) ∷ others (split b xs)
+split-cons b [] = refl
+split-cons b (x ∷ xs) =
+    elim (eqb x b) as (λ t. let ps : List (List ℕ) = cond t ([] ∷ split b xs) (onto x (split b xs)) in ps ≡ first ps ∷ others ps)
+    [ true ↦ refl | false ↦ onto-cons x (split b xs) ]
+
 pub end-split : {A : Type 0} (y : A) (b : ℕ) (xs : List ℕ) → end y (split b xs) ≡ None
-end-split y b [] = refl
-end-split y b (x ∷ xs) =
-    elim (eqb x b) as (λ t. end y (cond t ([] ∷ split b xs) (onto x (split b xs))) ≡ None)
-    [ true ↦ refl | false ↦ end-onto y x (split b xs) ]
+end-split y b xs = ap (end y) (split-cons b xs)
+
+-- a line and its byte 10, and what is left
+pub script-more : (xs line ys : List ℕ) → split 10 xs ≡ line ∷ split 10 ys → script xs ≡ parse-line line ∷ script ys
+script-more xs line ys e =
+    ap calls-of e ∙ ap (λ ps. calls-of (line ∷ ps)) (split-cons 10 ys)
+    ∙ sym (ap (λ ps. parse-line line ∷ calls-of ps) (split-cons 10 ys))

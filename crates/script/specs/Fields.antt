@@ -45,14 +45,14 @@ abbrev pub first : List (List ℕ) → List ℕ
 first [] = []
 first (f ∷ fs) = f
 
--- the fields after the first
-abbrev pub rest : List (List ℕ) → List (List ℕ)
-rest [] = []
-rest (f ∷ fs) = fs
+-- what stands after the first
+abbrev pub others : {A : Type 0} → List A → List A
+others [] = []
+others (x ∷ xs) = xs
 
 -- the number of the next field, and what k makes of it and the fields after it
 abbrev pub next : {A : Type 0} → List (List ℕ) → (ℕ → List (List ℕ) → Option A) → Option A
-next fs k = bind (number (first fs)) (λ n. k n (rest fs))
+next fs k = bind (number (first fs)) (λ n. k n (others fs))
 
 -- x, where no field is left
 abbrev pub end : {A : Type 0} → A → List (List ℕ) → Option A

@@ -1,8 +1,8 @@
 //! The fields of a line, one after the other.
 ghost use mathlib.Core.Path.{_≡_};
 ghost use Rattle.std.specs.Options.{mapped};
-ghost use Rattle.script.specs.Fields.{left, first, rest as others, split, number, end, one, three, four};
-ghost use Rattle.script.specs.Lines.{letter};
+ghost use Rattle.script.specs.Fields.{left, first, others, split, number, end, one, three, four};
+ghost use Rattle.script.specs.Lines.{letter-of};
 use crate::bytes::cut;
 use crate::bytes::numeral;
 
@@ -81,7 +81,7 @@ impl<'a> Fields<'a> {
 
     /// The letter that the next field is.
     pub fn letter(&mut self) -> Option<u8>
-        ensures value { λ r. ⌜ r ≡ letter (first (left 32 (mapped now (now (self .entry) .rest)))) ⌝ }
+        ensures value { λ r. ⌜ r ≡ letter-of (first (left 32 (mapped now (now (self .entry) .rest)))) ⌝ }
         ensures after { λ _. ⌜ left 32 (mapped now (now (self .exit) .rest)) ≡ others (left 32 (mapped now (now (self .entry) .rest))) ⌝ }
     {
         match self.next() {

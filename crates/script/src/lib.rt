@@ -2,3 +2,4 @@
 mod bytes;
 mod fields;
 pub mod line;
+pub mod reader;

@@ -1,8 +1,8 @@
 //! The call that a line writes.
 ghost use mathlib.Core.Path.{_≡_};
 ghost use Rattle.std.specs.Options.{mapped};
-ghost use Rattle.script.specs.Fields.{left, bind, first, rest as others};
-ghost use Rattle.script.specs.Lines.{letter, protocol, start, call, parse-line};
+ghost use Rattle.script.specs.Fields.{left};
+ghost use Rattle.script.specs.Lines.{protocol-of, start-of, call-of, parse-line};
 use crate::fields::Fields;
 use calls::call::Call;
 use calls::call::Protocol;
@@ -18,17 +18,26 @@ pub fn parse(line: &[u8]) -> Option<Call>
 
 /// The call of a letter with its fields.
 fn call(letter: u8, fields: &mut Fields<'_>) -> Option<Call>
-    ensures { λ r. ⌜ r ≡ call letter (left 32 (mapped now (now (fields .entry) .rest))) ⌝ }
+    ensures { λ r. ⌜ r ≡ call-of letter (left 32 (mapped now (now (fields .entry) .rest))) ⌝ }
 {
     match letter {
         b'N' => start(fields),
         b'L' => {
             let (core, wave, address) = fields.three()?;
-            Some(Call::Load { core, wave, address })
+            Some(Call::Load {
+                core,
+                wave,
+                address,
+            })
         }
         b'S' => {
             let (core, wave, address, value) = fields.four()?;
-            Some(Call::Store { core, wave, address, value })
+            Some(Call::Store {
+                core,
+                wave,
+                address,
+                value,
+            })
         }
         b'V' => {
             let core = fields.one()?;
@@ -45,7 +54,7 @@ fn call(letter: u8, fields: &mut Fields<'_>) -> Option<Call>
 
 /// N cores P.
 fn start(fields: &mut Fields<'_>) -> Option<Call>
-    ensures { λ r. ⌜ r ≡ start (left 32 (mapped now (now (fields .entry) .rest))) ⌝ }
+    ensures { λ r. ⌜ r ≡ start-of (left 32 (mapped now (now (fields .entry) .rest))) ⌝ }
 {
     let cores = fields.number()?;
     let letter = fields.letter()?;
@@ -55,7 +64,7 @@ fn start(fields: &mut Fields<'_>) -> Option<Call>
 
 /// The protocol of a letter.
 fn protocol(letter: u8) -> Option<Protocol>
-    ensures { λ r. ⌜ r ≡ protocol letter ⌝ }
+    ensures { λ r. ⌜ r ≡ protocol-of letter ⌝ }
 {
     match letter {
         b'S' => Some(Protocol::Strong),
