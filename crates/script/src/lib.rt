@@ -1,4 +1,5 @@
 //! The lines of a script as calls, and the lines that tell their outcomes.
+pub mod answer;
 mod bytes;
 mod fields;
 pub mod line;
