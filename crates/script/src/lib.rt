@@ -4,3 +4,5 @@ mod bytes;
 mod fields;
 pub mod line;
 pub mod reader;
+#[cfg(test)]
+mod tests;
