@@ -30,7 +30,7 @@ digits-stop : (n i : ℕ) (f : List ℕ) → i < length f → (getD f i 0 < 48) 
 digits-stop n i f h s = rw (drop-cons f i 0) (rw (no-digit (getD f i 0) s) refl)
 
 -- a field of 1 to 10 bytes
-number-within : (f : List ℕ) → 1 ≤ length f → length f ≤ 10 → number f ≡ bind (digits 0 f) word
+pub number-within : (f : List ℕ) → 1 ≤ length f → length f ≤ 10 → number f ≡ bind (digits 0 f) word
 number-within f low high = cond-true _ _ _ (and-from _ _ (lt-ltb 0 (length f) low) (le-leb (length f) 10 high))
 
 -- one whose digits are read up to place i, where another byte stands

@@ -48,8 +48,22 @@ split-cons b (x ∷ xs) =
 pub end-split : {A : Type 0} (y : A) (b : ℕ) (xs : List ℕ) → end y (split b xs) ≡ None
 end-split y b xs = ap (end y) (split-cons b xs)
 
+calls-more : (line ys : List ℕ) → calls-of (line ∷ split 10 ys) ≡ parse-line line ∷ script ys
+calls-more line ys =
+    ap (λ ps. calls-of (line ∷ ps)) (split-cons 10 ys) ∙ sym (ap (λ ps. parse-line line ∷ calls-of ps) (split-cons 10 ys))
+
 -- a line and its byte 10, and what is left
 pub script-more : (xs line ys : List ℕ) → split 10 xs ≡ line ∷ split 10 ys → script xs ≡ parse-line line ∷ script ys
-script-more xs line ys e =
-    ap calls-of e ∙ ap (λ ps. calls-of (line ∷ ps)) (split-cons 10 ys)
-    ∙ sym (ap (λ ps. parse-line line ∷ calls-of ps) (split-cons 10 ys))
+script-more xs line ys e = ap calls-of e ∙ calls-more line ys
+
+calls-onto : (x : ℕ) (ps : List (List ℕ)) → length (calls-of (onto x ps)) ≤ suc (length (calls-of ps))
+calls-onto x [] = omega arith
+calls-onto x (p ∷ []) = omega arith
+calls-onto x (p ∷ q ∷ ps) = omega arith
+
+-- no more lines than bytes
+pub script-length : (xs : List ℕ) → length (script xs) ≤ length xs
+script-length [] = omega arith
+script-length (x ∷ xs) =
+    elim (eqb x 10) as (λ t. length (calls-of (cond t ([] ∷ split 10 xs) (onto x (split 10 xs)))) ≤ suc (length xs))
+    [ true ↦ omega (arith, ap length (calls-more [] xs), script-length xs) | false ↦ omega (arith, calls-onto x (split 10 xs), script-length xs) ]

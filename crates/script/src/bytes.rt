@@ -1,8 +1,23 @@
 //! Bytes: cut at one, and the numbers that they write.
 ghost use mathlib.Core.Path.{_≡_};
 ghost use mathlib.Core.List.{_∷_};
+ghost use lib.ListN.{take};
 ghost use Rattle.std.specs.Options.{mapped};
 ghost use Rattle.script.specs.Fields.{split, left, number};
+
+/// The most bytes of an input that are read.
+const MOST: usize = 65536;
+
+/// The first 65,536 bytes, or all where there are fewer.
+pub fn limited(bytes: &[u8]) -> &[u8]
+    ensures { λ r. ⌜ now r ≡ take 65536 (now (bytes .entry)) ⌝ }
+{
+    if bytes.len() > MOST {
+        &bytes[0..MOST]
+    } else {
+        bytes
+    }
+}
 
 /// The bytes before the first byte `b`, and those after it; all, where there is none.
 pub fn cut(bytes: &[u8], b: u8) -> (&[u8], Option<&[u8]>)

@@ -3,13 +3,15 @@ ghost use mathlib.Core.Path.{_≡_};
 ghost use Rattle.std.specs.Options.{mapped};
 ghost use Rattle.script.specs.Fields.{left};
 ghost use Rattle.script.specs.Lines.{protocol-of, start-of, call-of, parse-line};
+ghost use Rattle.script.specs.Written.{Back};
 use crate::fields::Fields;
 use calls::call::Call;
 use calls::call::Protocol;
 
 /// The call that a line writes, if it writes one.
 pub fn parse(line: &[u8]) -> Option<Call>
-    ensures { λ r. ⌜ r ≡ parse-line (now (line .entry)) ⌝ }
+    ensures value { λ r. ⌜ r ≡ parse-line (now (line .entry)) ⌝ }
+    ensures back { λ r. ⌜ Back (now (line .entry)) r ⌝ }
 {
     let mut fields = Fields::new(line);
     let letter = fields.letter()?;

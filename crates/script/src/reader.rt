@@ -1,18 +1,17 @@
 //! A script, line by line.
 ghost use mathlib.Core.Path.{_≡_};
 ghost use mathlib.Core.List.{[], _∷_};
-ghost use Prim.Native.Nat.{_+_};
+ghost use Prim.Native.Nat.{_+_, _≤_};
 ghost use lib.ListN.{length, take};
 ghost use Rattle.std.specs.Options.{Cases as BySome};
 ghost use Rattle.std.specs.Vec.{listOf};
 ghost use Rattle.script.specs.Fields.{others};
 ghost use Rattle.script.specs.Lines.{script, front};
+ghost use Rattle.script.specs.Written.{All-back};
 use crate::bytes::cut;
+use crate::bytes::limited;
 use crate::line::parse;
 use calls::call::Call;
-
-/// The most bytes of an input that are read.
-const MOST: usize = 65536;
 
 /// The bytes of a script that are still to be read.
 #[derive(Drop)]
@@ -23,14 +22,12 @@ pub struct Reader<'a> {
 impl<'a> Reader<'a> {
     /// Reads the first 65,536 bytes of an input.
     pub fn new(input: &'a [u8]) -> Reader<'a>
-        ensures { λ r. ⌜ now (r .rest) ≡ take 65536 (now (input .entry)) ⌝ }
+        ensures value { λ r. ⌜ now (r .rest) ≡ take 65536 (now (input .entry)) ⌝ }
+        ensures few { λ r. ⌜ length (script (now (r .rest))) ≤ 65536 ⌝ }
+        ensures back { λ r. ⌜ All-back (now (input .entry)) (now (r .rest)) ⌝ }
     {
-        if input.len() > MOST {
-            Reader {
-                rest: &input[0..MOST],
-            }
-        } else {
-            Reader { rest: input }
+        Reader {
+            rest: limited(input),
         }
     }
 

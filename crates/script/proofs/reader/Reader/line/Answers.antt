@@ -10,7 +10,7 @@ use Rattle.script.proofs.reader.Reader.line.Needs as need
 -- the script is this line and what is left
 more : (c : need.After-parse) → script (c .args .self .now .rest .now) ≡ c .parse .result ∷ script (c .in-Some .rest .now)
 more c =
-    rw (c .parse .ensures)
+    rw (c .parse .ensures .value)
     (script-more (c .args .self .now .rest .now) (c .cut .result .0 .now) (c .in-Some .rest .now) (rw (c .in-Some .is) at (c .cut .ensures)))
 
 pub returns-in-Some : need.returns-in-Some

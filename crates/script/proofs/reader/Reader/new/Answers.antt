@@ -1,7 +1,6 @@
-use mathlib.Core.Path.{sym}
-use native.Mathlib.Omega.{arith}
-use Rattle.std.proofs.shelf.Lists.{take-all}
+use Rattle.script.proofs.Back.{all-back, few as no-more}
 use Rattle.script.proofs.reader.Reader.new.Needs as need
 
-pub returns-else-input-gt-MOST : need.returns-else-input-gt-MOST
-returns-else-input-gt-MOST c = sym (take-all 65536 (c .args .input .now) (omega arith))
+pub returns : need.returns
+returns c =
+    record { value = c .limited .ensures; few = no-more (c .args .input .now) _ (c .limited .ensures); back = all-back _ _ (c .limited .ensures) }
