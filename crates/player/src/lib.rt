@@ -1,0 +1,2 @@
+//! Plays a script on a machine, and writes a line for each of its lines.
+pub mod play;
