@@ -44,13 +44,20 @@ pub impl Addressed for Request as RequestAddressed {
     }
 }
 
+/// Whether a record names the address.
+fn names<R: Addressed>(item: &R, address: u32) -> bool
+    ensures { λ r. ⌜ r ≡ eqb (R·Addressed .named (now (item .entry))) address ⌝ }
+{
+    item.address_of() == address
+}
+
 /// The place of the first record of an address.
 pub fn place_of<R: Addressed>(row: &[R], address: u32) -> Option<usize>
     ensures value { λ r. ⌜ r ≡ place-from (λ x. eqb (R·Addressed .named x) address) 0 (now (row .entry)) ⌝ }
     ensures inside { λ r. ⌜ BySome r (Unit {0}) (λ i. i < length (now (row .entry))) ⌝ }
 {
     for (i, x) in row.iter().enumerate() {
-        if x.address_of() == address {
+        if names(x, address) {
             return Some(i);
         }
     }

@@ -1,7 +1,6 @@
-use mathlib.Core.Path.{refl}
 use Rattle.rules.specs.Stamps.{runs}
 use Rattle.rules.proofs.stamp.runs.Needs as need
 
 pub returns : need.returns
 unfolding runs
-returns c = refl
+returns c = c .reaches .ensures
