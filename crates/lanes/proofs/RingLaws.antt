@@ -12,7 +12,7 @@ use Rattle.std.proofs.shelf.Tests.{cases-eq, cases-lt, eq-eqb, ne-eqb}
 use Rattle.std.proofs.shelf.Ways.{tells}
 use Rattle.std.specs.declared.option.Option.the-variants.{Some}
 use Rattle.lanes.specs.Lanes.{oldest, with-lane, take-lanes}
-use Rattle.lanes.specs.Rings.{wrap, slots, ring-depth, lanes-at, add-lane, none-above}
+use Rattle.lanes.specs.Rings.{wrap, slots, row-depth, lanes-at, add-lane, none-above}
 use Rattle.lanes.proofs.Slots.{lane-fits, lane-length, lane-first, lane-rest, lane-added, lane-else, wrap-below}
 
 -- lanes that hold xs in lane k, and what F holds in the others
@@ -39,7 +39,7 @@ opened :
     lanes-at row d heads counts k ≡ slots row (k * d) d (getD heads k 0 % d) (min (getD counts k 0) d)
 opened row d heads counts k pos hk = grind (arith, tells)
 
-module _ {A : Type 0} (row : List A) (d : ℕ) (heads counts : List ℕ) (e : d ≡ ring-depth (length row)) (k : ℕ) (hk : k < 16) where
+module _ {A : Type 0} (row : List A) (d : ℕ) (heads counts : List ℕ) (e : d ≡ row-depth (length row)) (k : ℕ) (hk : k < 16) where
   fits : 16 * d ≤ length row
   fits = omega (arith, e)
 
@@ -99,7 +99,7 @@ module _ {A : Type 0} (row : List A) (d : ℕ) (heads counts : List ℕ) (e : d 
       ((j : ℕ) → (j ≡ k → ⊥) → getD counts' j 0 ≡ getD counts j 0) →
       row' ≡ set row (k * d + wrap d (getD heads k 0 % d + length (lanes-at row d heads counts k))) m →
       (j : ℕ) →
-      lanes-at row' (ring-depth (length row')) heads counts' j
+      lanes-at row' (row-depth (length row')) heads counts' j
       ≡ add-lane (lanes-at row d heads counts) k m j
   added m row' counts' room ch co rs =
       let pos : 0 < d = omega arith in
@@ -108,7 +108,7 @@ module _ {A : Type 0} (row : List A) (d : ℕ) (heads counts : List ℕ) (e : d 
       let set-row = set row (k * d + slot) m in
       let more : min (getD counts' k 0) d ≡ n + 1 = omega (arith, held-is, ch) in
       let row-is : row' ≡ set-row = rw held-is at rs in
-      let deep : ring-depth (length row') ≡ d = ap ring-depth (ap length row-is ∙ length-set row (k * d + slot) m) ∙ sym e in
+      let deep : row-depth (length row') ≡ d = ap row-depth (ap length row-is ∙ length-set row (k * d + slot) m) ∙ sym e in
       let now-open = λ (i : ℕ) (hi : i < 16). opened set-row d heads counts' i pos hi in
       let was-open = λ (i : ℕ) (hi : i < 16). opened row d heads counts i pos hi in
       rw (deep, row-is)

@@ -1,11 +1,11 @@
 //! A ring for each lane, over the caller's row of messages.
-ghost use Prim.Native.Nat.{ℕ, _+_, _*_, _%_, _<_, _≤_};
+ghost use Prim.Native.Nat.{ℕ, _<_, _≤_};
 ghost use mathlib.Core.Path.{_≡_};
 ghost use mathlib.Core.List.{_∷_, []};
 ghost use lib.ListN.{length, getD, set, take, drop};
 ghost use Rattle.std.specs.declared.option.Option.the-variants.{Some};
 ghost use Rattle.lanes.specs.Lanes.{oldest, take-lanes};
-ghost use Rattle.lanes.specs.Rings.{add-lane, depth-of, lanes-of, place-of, ring-bare, ring-depth, ring-shallow, slot-of, wrap};
+ghost use Rattle.lanes.specs.Rings.{add-lane, ring-bare, ring-depth, ring-lanes, ring-place, ring-shallow, ring-slot, row-depth, wrap};
 use crate::net::LaneError;
 use crate::net::LaneNet;
 
@@ -13,7 +13,7 @@ use crate::net::LaneNet;
 #[derive(Drop)]
 pub struct Ring<'a, M> {
     row: &'a mut [M],
-    /// the place of each lane's oldest message
+    /// the slot of each lane's oldest message
     heads: [usize; 16],
     counts: [usize; 16],
 }
@@ -22,7 +22,7 @@ impl<'a, M> Ring<'a, M> {
     /// An empty net over the caller's row.
     pub fn new(row: &'a mut [M]) -> Ring<'a, M>
         ensures row { λ r. ⌜ now (r .row) ≡ now (row .entry) ⌝ }
-        ensures empty { λ r. ⌜ ((k : ℕ) → lanes-of r k ≡ []) ⌝ }
+        ensures empty { λ r. ⌜ ((k : ℕ) → ring-lanes r k ≡ []) ⌝ }
     {
         Ring {
             row,
@@ -36,15 +36,15 @@ impl<'a, M: Copy> Ring<'a, M> {
     /// How many messages lie in a lane.
     fn held(&self, k: usize) -> usize
         requires { ⌜ k < 16 ⌝ }
-        ensures { λ r. ⌜ r ≡ length (lanes-of (now (self .entry)) k) ⌝ }
+        ensures { λ r. ⌜ r ≡ length (ring-lanes (now (self .entry)) k) ⌝ }
     {
         self.counts[k].min(self.depth())
     }
 
-    /// The slot, in its lane, of the message that is n behind the oldest.
+    /// The slot, in its lane, of the message that lies n behind the oldest.
     fn slot(&self, k: usize, n: usize) -> usize
-        requires { ⌜ k < 16 ⌝ ∗ ⌜ 0 < depth-of (now self) ⌝ ∗ ⌜ n ≤ depth-of (now self) ⌝ }
-        ensures { λ r. ⌜ r ≡ slot-of (now (self .entry)) k n ⌝ }
+        requires { ⌜ k < 16 ⌝ ∗ ⌜ 0 < ring-depth (now self) ⌝ ∗ ⌜ n ≤ ring-depth (now self) ⌝ }
+        ensures { λ r. ⌜ r ≡ ring-slot (now (self .entry)) k n ⌝ }
     {
         let d = self.depth();
         wrapped(d, self.heads[k] % d + n)
@@ -52,25 +52,25 @@ impl<'a, M: Copy> Ring<'a, M> {
 
     /// The place of that slot in the row.
     fn place(&self, k: usize, n: usize) -> usize
-        requires { ⌜ k < 16 ⌝ ∗ ⌜ n < depth-of (now self) ⌝ }
-        ensures { λ r. ⌜ r ≡ place-of (now (self .entry)) k n ⌝ }
+        requires { ⌜ k < 16 ⌝ ∗ ⌜ n < ring-depth (now self) ⌝ }
+        ensures { λ r. ⌜ r ≡ ring-place (now (self .entry)) k n ⌝ }
     {
         k * self.depth() + self.slot(k, n)
     }
 
     /// The oldest message of a lane that holds one.
     fn first(&self, k: usize) -> M
-        requires { ⌜ k < 16 ⌝ ∗ ⌜ 0 < length (lanes-of (now self) k) ⌝ }
-        ensures { λ r. ⌜ Some r ≡ oldest (lanes-of (now (self .entry)) k) ⌝ }
+        requires { ⌜ k < 16 ⌝ ∗ ⌜ 0 < length (ring-lanes (now self) k) ⌝ }
+        ensures { λ r. ⌜ Some r ≡ oldest (ring-lanes (now (self .entry)) k) ⌝ }
     {
         fetch(self.row, self.place(k, 0))
     }
 
     /// Adds a message to a lane that is not full.
     fn add(&mut self, k: usize, message: M)
-        requires { ⌜ k < 16 ⌝ ∗ ⌜ length (lanes-of (now self) k) < depth-of (now self) ⌝ }
-        ensures lanes { λ _. ⌜ ((j : ℕ) → lanes-of (now (self .exit)) j ≡ add-lane (lanes-of (now (self .entry))) k message j) ⌝ }
-        ensures same { λ _. ⌜ depth-of (now (self .exit)) ≡ depth-of (now (self .entry)) ⌝ }
+        requires { ⌜ k < 16 ⌝ ∗ ⌜ length (ring-lanes (now self) k) < ring-depth (now self) ⌝ }
+        ensures lanes { λ _. ⌜ ((j : ℕ) → ring-lanes (now (self .exit)) j ≡ add-lane (ring-lanes (now (self .entry))) k message j) ⌝ }
+        ensures same { λ _. ⌜ ring-depth (now (self .exit)) ≡ ring-depth (now (self .entry)) ⌝ }
     {
         let n = self.held(k);
         let at = self.place(k, n);
@@ -80,9 +80,9 @@ impl<'a, M: Copy> Ring<'a, M> {
 
     /// Removes the oldest message of a lane that holds one.
     fn advance(&mut self, k: usize)
-        requires { ⌜ k < 16 ⌝ ∗ ⌜ 0 < length (lanes-of (now self) k) ⌝ }
-        ensures lanes { λ _. ⌜ ((j : ℕ) → lanes-of (now (self .exit)) j ≡ take-lanes (lanes-of (now (self .entry))) k j) ⌝ }
-        ensures same { λ _. ⌜ depth-of (now (self .exit)) ≡ depth-of (now (self .entry)) ⌝ }
+        requires { ⌜ k < 16 ⌝ ∗ ⌜ 0 < length (ring-lanes (now self) k) ⌝ }
+        ensures lanes { λ _. ⌜ ((j : ℕ) → ring-lanes (now (self .exit)) j ≡ take-lanes (ring-lanes (now (self .entry))) k j) ⌝ }
+        ensures same { λ _. ⌜ ring-depth (now (self .exit)) ≡ ring-depth (now (self .entry)) ⌝ }
     {
         let next = self.slot(k, 1);
         let left = self.held(k) - 1;
@@ -92,9 +92,9 @@ impl<'a, M: Copy> Ring<'a, M> {
 }
 
 pub impl<'a, M: Copy> LaneNet<M> for Ring<'a, M> as RingNet {
-    ghost lanes = { λ s. lanes-of s };
+    ghost lanes = { λ s. ring-lanes s };
 
-    ghost depth = { λ s. depth-of s };
+    ghost depth = { λ s. ring-depth s };
 
     ghost shallow = { λ s. ring-shallow s };
 
@@ -126,7 +126,7 @@ pub impl<'a, M: Copy> LaneNet<M> for Ring<'a, M> as RingNet {
     }
 
     fn depth(&self) -> usize {
-        ring_depth(self.row.len())
+        row_depth(self.row.len())
     }
 
     fn take(&mut self, lane: u32) -> Option<M> {
@@ -138,17 +138,17 @@ pub impl<'a, M: Copy> LaneNet<M> for Ring<'a, M> as RingNet {
     }
 }
 
-fn ring_depth(len: usize) -> usize
-    ensures { λ r. ⌜ r ≡ ring-depth len ⌝ }
+fn row_depth(len: usize) -> usize
+    ensures { λ r. ⌜ r ≡ row-depth len ⌝ }
 {
     (len / 16).min(32)
 }
 
-/// A place of a lane, brought back from past its end.
-fn wrapped(depth: usize, place: usize) -> usize
-    ensures { λ r. ⌜ r ≡ wrap depth place ⌝ }
+/// A slot of a lane, brought back from past its end.
+fn wrapped(depth: usize, slot: usize) -> usize
+    ensures { λ r. ⌜ r ≡ wrap depth slot ⌝ }
 {
-    if place >= depth { place - depth } else { place }
+    if slot >= depth { slot - depth } else { slot }
 }
 
 fn mark(marks: &mut [usize], k: usize, v: usize)

@@ -28,8 +28,8 @@ pub trait FiveWords: Sized {
     fn to_words(self) -> [u32; 5]
         ensures { λ r. ⌜ r ≡ words self ⌝ };
 
-    fn from_words(five: [u32; 5]) -> Option<Self>
-        ensures { λ r. ⌜ r ≡ message five ⌝ };
+    fn from_words(row: [u32; 5]) -> Option<Self>
+        ensures { λ r. ⌜ r ≡ message row ⌝ };
 }
 
 pub impl FiveWords for Request as RequestWords {
@@ -58,8 +58,8 @@ pub impl FiveWords for Request as RequestWords {
         }
     }
 
-    fn from_words(five: [u32; 5]) -> Option<Request> {
-        match five {
+    fn from_words(row: [u32; 5]) -> Option<Request> {
+        match row {
             [1, wave, address, 0, 0] => Some(Request::Load { wave, address }),
             [2, wave, address, operand, 0] => Some(Request::Store {
                 wave,
@@ -113,8 +113,8 @@ pub impl FiveWords for Answer as AnswerWords {
         }
     }
 
-    fn from_words(five: [u32; 5]) -> Option<Answer> {
-        match five {
+    fn from_words(row: [u32; 5]) -> Option<Answer> {
+        match row {
             [1, wave, address, value, stamp] => Some(Answer::Load {
                 wave,
                 address,

@@ -1,6 +1,6 @@
 use mathlib.Core.Path.{refl, ap, _∙_}
 use Prim.Native.Nat.{_-_}
-use Rattle.lanes.specs.Rings.{depth-of, slot-of}
+use Rattle.lanes.specs.Rings.{ring-depth, ring-slot}
 use Rattle.lanes.proofs.RingLaws.{advanced}
 use Rattle.lanes.proofs.ring.Ring.advance.Needs as need
 
@@ -10,9 +10,9 @@ returns g c =
     let k = c .args .k in
     record {
       lanes =
-          advanced (s .row .now) (depth-of s) (s .heads) (s .counts) refl k (c .pre .0)
+          advanced (s .row .now) (ring-depth s) (s .heads) (s .counts) refl k (c .pre .0)
           (c .mark .last .marks) (c .mark-2 .last .marks) (c .pre .1)
-          (_∙_ {c = slot-of s k 1} (c .mark .ensures .here) (c .slot-next .ensures)) (c .mark .ensures .there)
+          (_∙_ {c = ring-slot s k 1} (c .mark .ensures .here) (c .slot-next .ensures)) (c .mark .ensures .there)
           (c .mark-2 .ensures .here ∙ ap (λ n. n - 1) (c .held-left .ensures)) (c .mark-2 .ensures .there);
-      same = refl {a = depth-of s};
+      same = refl {a = ring-depth s};
     }

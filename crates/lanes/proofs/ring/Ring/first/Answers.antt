@@ -1,6 +1,6 @@
 use mathlib.Core.Path.{refl}
 use native.Mathlib.Omega.{arith}
-use Rattle.lanes.specs.Rings.{depth-of}
+use Rattle.lanes.specs.Rings.{ring-depth}
 use Rattle.lanes.proofs.RingLaws.{first-is, held-is, place-in}
 use Rattle.lanes.proofs.ring.Ring.first.Needs as need
 
@@ -8,12 +8,12 @@ pub fetch-requires : need.fetch-requires
 fetch-requires g c κs =
     let s = c .args .self .now in
     let k = c .args .k in
-    let held = held-is (s .row .now) (depth-of s) (s .heads) (s .counts) refl k (c .pre .0) in
-    rw (c .place .ensures) (place-in (s .row .now) (depth-of s) (s .heads) (s .counts) refl k (c .pre .0) 0 (omega (arith, held)))
+    let held = held-is (s .row .now) (ring-depth s) (s .heads) (s .counts) refl k (c .pre .0) in
+    rw (c .place .ensures) (place-in (s .row .now) (ring-depth s) (s .heads) (s .counts) refl k (c .pre .0) 0 (omega (arith, held)))
 
 pub returns : need.returns
 returns g c =
     let s = c .args .self .now in
     let k = c .args .k in
-    first-is (s .row .now) (depth-of s) (s .heads) (s .counts) refl k (c .pre .0) (c .fetch .result) (c .pre .1)
+    first-is (s .row .now) (ring-depth s) (s .heads) (s .counts) refl k (c .pre .0) (c .fetch .result) (c .pre .1)
     (rw (c .place .ensures) at (c .fetch .ensures))
