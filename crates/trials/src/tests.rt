@@ -32,7 +32,9 @@ const STORE_5: Call = Call::Store {
 };
 
 const SERVE_0: Call = Call::Serve { core: 0 };
+
 const SERVE_1: Call = Call::Serve { core: 1 };
+
 const DELIVER_0: Call = Call::Deliver { core: 0 };
 
 /// The tick on the stamp, and the tick after it.
@@ -48,7 +50,10 @@ fn stamp_edges(rt: LibcRuntime) -> Result<(), Fail> {
         Fixed::new(10),
         rt.alloc(),
     )?;
-    check_eq(last(&mut m, &[TWO_STRONG, LOAD_5, SERVE_0]), Some(Outcome::Served))?;
+    check_eq(
+        last(&mut m, &[TWO_STRONG, LOAD_5, SERVE_0]),
+        Some(Outcome::Served),
+    )?;
     let handed = Delivered::Load {
         wave: 0,
         address: 5,
@@ -69,7 +74,9 @@ fn stamp_edges(rt: LibcRuntime) -> Result<(), Fail> {
 }
 
 const UNKNOWN: Option<Outcome> = Some(Outcome::Refused(Refusal::UnknownCore));
+
 const NO_START: Option<Outcome> = Some(Outcome::Refused(Refusal::CannotStart));
+
 const FULL: Option<Outcome> = Some(Outcome::Refused(Refusal::LaneFull));
 
 /// A start of a number of cores.
@@ -220,7 +227,10 @@ fn clock_end(rt: LibcRuntime) -> Result<(), Fail> {
         rt.alloc(),
     )?;
     ticks(&mut m, 4294963197);
-    check_eq(last(&mut m, &[Call::Tick]), Some(Outcome::Ticked(4294963199)))?;
+    check_eq(
+        last(&mut m, &[Call::Tick]),
+        Some(Outcome::Ticked(4294963199)),
+    )?;
     let end = Some(Outcome::Refused(Refusal::ClockAtEnd));
     check_eq(last(&mut m, &[Call::Tick]), end)
 }
