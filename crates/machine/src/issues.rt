@@ -32,7 +32,8 @@ impl<Q: LaneNet<Request>, R: LaneNet<Answer>, M: Memory, P: LifetimePolicy> Mach
         }
     }
 
-    /// A wave of a core loads a word.
+    /// A wave of a core loads a word. Checks: 1, 2, 3, the hit, 4, 5. A load hits exactly if the core
+    /// has a running copy and no pending request on the address; otherwise a request is put and noted.
     pub fn load(&mut self, core: u32, wave: u32, address: u32) -> Result<Loaded, Refusal>
         ensures answer { λ r. ⌜ r ≡ load-step (view Q·LaneNet R·LaneNet M·Memory (now (self .entry))) core wave address .answer ⌝ }
         ensures after { λ _. ⌜ view Q·LaneNet R·LaneNet M·Memory (now (self .exit)) ≡ load-step (view Q·LaneNet R·LaneNet M·Memory (now (self .entry))) core wave address .after ⌝ }
@@ -48,7 +49,8 @@ impl<Q: LaneNet<Request>, R: LaneNet<Answer>, M: Memory, P: LifetimePolicy> Mach
         Ok(Loaded::Sent)
     }
 
-    /// A wave of a core stores a word.
+    /// A wave of a core stores a word. Checks: 1, 2, 3, 4, 5. The copy of the address is dropped, and
+    /// a request is put and noted.
     pub fn store(&mut self, core: u32, wave: u32, address: u32, value: u32) -> Result<(), Refusal>
         ensures answer { λ r. ⌜ r ≡ store-step (view Q·LaneNet R·LaneNet M·Memory (now (self .entry))) core wave address value .answer ⌝ }
         ensures after { λ _. ⌜ view Q·LaneNet R·LaneNet M·Memory (now (self .exit)) ≡ store-step (view Q·LaneNet R·LaneNet M·Memory (now (self .entry))) core wave address value .after ⌝ }

@@ -70,7 +70,7 @@ fn loaded(address: u32, result: Result<Loaded, Refusal>) -> Outcome
     }
 }
 
-/// Makes a call.
+/// Makes a call: what it comes to, and what it leaves, are those of its step.
 pub fn make<Q: LaneNet<Request>, R: LaneNet<Answer>, M: Memory, P: LifetimePolicy>(
     machine: &mut Machine<Q, R, M, P>,
     call: Call,

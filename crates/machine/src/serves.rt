@@ -57,7 +57,10 @@ impl<Q: LaneNet<Request>, R: LaneNet<Answer>, M: Memory, P: LifetimePolicy> Mach
         Ok(())
     }
 
-    /// The bank serves a core's oldest request.
+    /// The bank serves a core's oldest request. Checks: 1, 6, 5 for the answer lane, 7, 8. Cause 7
+    /// comes under TC-Strong, for a store or atomic on an address whose stamp runs, and marks the lane
+    /// as waiting until that request is served. (Cause 2, after 6, is for an address past the memory,
+    /// which a started machine has not.)
     pub fn serve(&mut self, core: u32) -> Result<(), Refusal>
         ensures answer { λ r. ⌜ r ≡ serve-step (view Q·LaneNet R·LaneNet M·Memory (now (self .entry))) (P·LifetimePolicy .present (now (self .entry) .policy)) core .answer ⌝ }
         ensures after { λ _. ⌜ view Q·LaneNet R·LaneNet M·Memory (now (self .exit)) ≡ serve-step (view Q·LaneNet R·LaneNet M·Memory (now (self .entry))) (P·LifetimePolicy .present (now (self .entry) .policy)) core .after ⌝ }
@@ -82,7 +85,9 @@ impl<Q: LaneNet<Request>, R: LaneNet<Answer>, M: Memory, P: LifetimePolicy> Mach
         self.serve_place(core, request, place)
     }
 
-    /// A core takes its oldest answer and its oldest pending request.
+    /// A core takes its oldest answer and its oldest pending request. Checks: 1, then 6 without one of
+    /// the two. A load's value becomes a copy if its stamp runs and no store or atomic of the core on
+    /// the address is pending; a store's or atomic's stamp raises the wave's visible-by stamp.
     pub fn deliver(&mut self, core: u32) -> Result<Delivered, Refusal>
         ensures answer { λ r. ⌜ r ≡ deliver-step (view Q·LaneNet R·LaneNet M·Memory (now (self .entry))) core .answer ⌝ }
         ensures after { λ _. ⌜ view Q·LaneNet R·LaneNet M·Memory (now (self .exit)) ≡ deliver-step (view Q·LaneNet R·LaneNet M·Memory (now (self .entry))) core .after ⌝ }

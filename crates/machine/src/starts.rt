@@ -135,7 +135,9 @@ impl<Q: Drop, R: Drop, M: Drop, P: Drop> Machine<Q, R, M, P> {
 }
 
 impl<Q: LaneNet<Request>, R: LaneNet<Answer>, M: Memory, P: LifetimePolicy> Machine<Q, R, M, P> {
-    /// Starts the machine with cores 0 to `cores` - 1.
+    /// Starts the machine with cores 0 to `cores` - 1, and sets the clock to 1. Refused (15) unless
+    /// there are 1 to 16 cores, the machine was not started before, and both nets are empty and have
+    /// a depth above 0.
     pub fn start(&mut self, cores: u32, protocol: Protocol) -> Result<(), Refusal>
         ensures answer { λ r. ⌜ r ≡ start-step (view Q·LaneNet R·LaneNet M·Memory (now (self .entry))) cores protocol .answer ⌝ }
         ensures after { λ _. ⌜ view Q·LaneNet R·LaneNet M·Memory (now (self .exit)) ≡ start-step (view Q·LaneNet R·LaneNet M·Memory (now (self .entry))) cores protocol .after ⌝ }
@@ -151,7 +153,7 @@ impl<Q: LaneNet<Request>, R: LaneNet<Answer>, M: Memory, P: LifetimePolicy> Mach
         Ok(())
     }
 
-    /// The clock goes on by one: the clock after it.
+    /// The clock goes on by one: the clock after it. Refused (12) at the clock's end.
     pub fn tick(&mut self) -> Result<u32, Refusal>
         ensures answer { λ r. ⌜ r ≡ tick-step (view Q·LaneNet R·LaneNet M·Memory (now (self .entry))) .answer ⌝ }
         ensures after { λ _. ⌜ view Q·LaneNet R·LaneNet M·Memory (now (self .exit)) ≡ tick-step (view Q·LaneNet R·LaneNet M·Memory (now (self .entry))) .after ⌝ }
