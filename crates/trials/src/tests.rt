@@ -1,17 +1,60 @@
 //! Examples and edges.
-use super::*;
+use calls::call::Call;
 use calls::call::Protocol;
 use calls::outcome::Delivered;
+use calls::outcome::Outcome;
 use calls::outcome::OutcomeDebug;
 use calls::outcome::OutcomePartialEq;
 use calls::refusal::Refusal;
+use lanes::net::LaneNet;
 use lanes::ring::Ring;
 use lanes::ring::RingNet;
 use lifetimes::fixed::Fixed;
 use lifetimes::fixed::FixedPolicy;
+use lifetimes::policy::LifetimePolicy;
+use machine::makes::make;
+use machine::tables::Machine;
+use memories::memory::Memory;
 use memories::words::Words;
 use memories::words::WordsMemory;
+use messages::answer::Answer;
+use messages::request::Request;
 use std::test::*;
+
+/// A request to fill a row with.
+const REQUEST: Request = Request::Load {
+    wave: 0,
+    address: 0,
+};
+
+/// An answer to fill a row with.
+const ANSWER: Answer = Answer::Store {
+    wave: 0,
+    address: 0,
+    stamp: 0,
+};
+
+/// Makes the calls in order: what the last one came to, if there is one.
+fn last<Q: LaneNet<Request>, R: LaneNet<Answer>, M: Memory, P: LifetimePolicy>(
+    machine: &mut Machine<Q, R, M, P>,
+    calls: &[Call],
+) -> Option<Outcome> {
+    let mut outcome = None;
+    for call in calls {
+        outcome = Some(make(machine, *call));
+    }
+    outcome
+}
+
+/// Ticks as often as told.
+fn ticks<Q: LaneNet<Request>, R: LaneNet<Answer>, M: Memory, P: LifetimePolicy>(
+    machine: &mut Machine<Q, R, M, P>,
+    count: u32,
+) {
+    for _ in 0..count {
+        let _ = make(machine, Call::Tick);
+    }
+}
 
 const TWO_STRONG: Call = Call::Start {
     cores: 2,
