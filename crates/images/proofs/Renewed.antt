@@ -12,7 +12,7 @@ use Rattle.std.proofs.shelf.Lists.{places}
 use Rattle.std.proofs.shelf.Parts.{between-is, between-putMid, take-putMid-below, drop-putMid}
 use Rattle.std.proofs.shelf.Tests.{cases-eq, cases-lt, and-parts, and-from, eq-eqb, ne-eqb, eqb-true, cond-true, cond-false}
 use Rattle.memories.specs.Cells.{word, unreadable}
-use Rattle.images.specs.Blocks.{word-at, check-of, sound, block-at, block-cell, image-cell, image-size, put-cells, Else-kept, Word-alone}
+use Rattle.images.specs.Blocks.{word-at, check-of, sound, block-at, block-cell, cell-of, put-cells, Else-kept, Word-alone}
 use Rattle.images.proofs.Words.{word-kept}
 
 module _ (xs ys : List ℕ) (k n : ℕ) (e : n ≡ 512) (h : 512 * k + 512 ≤ length xs) (l : length ys ≡ 512) where
@@ -34,6 +34,7 @@ module _ (xs ys : List ℕ) (k n : ℕ) (e : n ≡ 512) (h : 512 * k + 512 ≤ l
           let m : 512 * j + 512 ≤ 512 * k = omega arith in
           let s : 512 * k ≤ length xs = omega arith in
           between-is over (512 * j) (512 * j + 512) ∙ rw (take-putMid-below (512 * k) n xs ys (512 * j + 512) m s) (sym (between-is xs (512 * j) (512 * j + 512)))
+
       after : k ≤ j → block-at over j ≡ block-at xs j
       after above =
           let m : 512 * k + n ≤ 512 * j = elim (cases-lt k j) as (λ _. 512 * k + n ≤ 512 * j) [ inl u ↦ omega arith | inr u ↦ absurd (ne (omega arith)) ] in
@@ -80,13 +81,14 @@ module _ (xs ys : List ℕ) (a v n : ℕ) (e : n ≡ 512) (h : 512 * (a / 126) +
       cell-again (j % 126) ∙ ap word (word-else (j % 126) (omega arith) (λ x. ne (omega arith))) ∙ sym (cell-before (j % 126))
       ∙ sym (cond-false _ _ _ (ne-eqb j a ne))
 
-  pub put-cell : (j : ℕ) → image-cell (over xs ys (a / 126) n e h l) j ≡ put-cells (image-cell xs) a v j
+  pub put-cell : (j : ℕ) → cell-of (over xs ys (a / 126) n e h l) j ≡ put-cells (cell-of xs) a v j
   put-cell j = elim (cases-eq (j / 126) (a / 126)) [ inl s ↦ near s | inr ne ↦ far ne ]
     where
-      near : j / 126 ≡ a / 126 → image-cell (over xs ys (a / 126) n e h l) j ≡ put-cells (image-cell xs) a v j
+      near : j / 126 ≡ a / 126 → cell-of (over xs ys (a / 126) n e h l) j ≡ put-cells (cell-of xs) a v j
       near s =
           rw (s, over-block xs ys (a / 126) n e h l) (put-near j s (cases-eq j a))
-      far : (j / 126 ≡ a / 126 → ⊥) → image-cell (over xs ys (a / 126) n e h l) j ≡ put-cells (image-cell xs) a v j
+
+      far : (j / 126 ≡ a / 126 → ⊥) → cell-of (over xs ys (a / 126) n e h l) j ≡ put-cells (cell-of xs) a v j
       far ne =
           ap (λ b. block-cell b (j / 126) (j % 126)) (over-else xs ys (a / 126) n e h l (j / 126) ne)
           ∙ sym (cond-false _ _ _ (ne-eqb j a (λ s. ne (ap (λ m. m / 126) s))))

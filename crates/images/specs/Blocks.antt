@@ -3,7 +3,6 @@ use mathlib.Core.Bool.{Bool, true, cond, _&&_}
 use mathlib.Core.List.{List}
 use mathlib.Core.Path.{_≡_}
 use Prim.Native.Nat.{ℕ, zero, suc, _+_, _-_, _*_, _/_, _%_, _^_, min, _≤_, _<_}
-use native.Mathlib.Omega.{arith}
 use lib.Dec.{eqb}
 use lib.ListN.{length, getD}
 use Rattle.std.specs.Holes.{between}
@@ -40,15 +39,12 @@ abbrev pub block-cell : List ℕ → ℕ → ℕ → Cell
 block-cell bs k i = cond (sound k bs) (word (word-at bs i)) (unreadable k)
 
 -- 126 words a block, at most 4,096
-abbrev pub image-size : List ℕ → ℕ
-image-size bytes = min (length bytes / 512 * 126) 4096
+abbrev pub size-of : List ℕ → ℕ
+size-of bytes = min (length bytes / 512 * 126) 4096
 
 -- address a is word a mod 126 of block a div 126
-abbrev pub image-cell : List ℕ → ℕ → Cell
-image-cell bytes a = block-cell (block-at bytes (a / 126)) (a / 126) (a % 126)
-
-pub image-small : (bytes : List ℕ) → image-size bytes ≤ 4096
-image-small bytes = omega arith
+abbrev pub cell-of : List ℕ → ℕ → Cell
+cell-of bytes a = block-cell (block-at bytes (a / 126)) (a / 126) (a % 126)
 
 -- the cells with another word at one address
 abbrev pub put-cells : (ℕ → Cell) → ℕ → ℕ → ℕ → Cell

@@ -3,9 +3,9 @@ ghost use Prim.Native.Nat.{ℕ, _+_, _*_, _/_, _≤_, _<_};
 ghost use mathlib.Core.Bool.{true};
 ghost use mathlib.Core.Path.{_≡_};
 ghost use lib.ListN.{length};
-ghost use denote.Ref.{now as behind};
-ghost use Rattle.memories.specs.Cells.{read-answer, write-answer, write-cells};
-ghost use Rattle.images.specs.Blocks.{Bytes-kept, Word-alone, block-at, image-cell, image-size, image-small, put-cells, sound};
+ghost use Rattle.memories.specs.Cells.{write-answer, write-cells};
+ghost use Rattle.images.specs.Blocks.{Bytes-kept, Word-alone, put-cells};
+ghost use Rattle.images.specs.Images.{image-cell, image-size, image-small, readable-block};
 use crate::block::is_sound;
 use crate::block::set_word;
 use crate::block::word_of;
@@ -30,7 +30,7 @@ impl<'a> Image<'a> {
     /// Whether block k can be read.
     fn readable(&self, k: u32) -> bool
         requires { ⌜ 512 * k + 512 ≤ length (now (now self .bytes)) ⌝ }
-        ensures { λ r. ⌜ r ≡ sound k (block-at (now (now (self .entry) .bytes)) k) ⌝ }
+        ensures { λ r. ⌜ r ≡ readable-block (now (self .entry)) k ⌝ }
     {
         let a = 512 * k as usize;
         is_sound(&self.bytes[a..a + 512], k)
@@ -38,9 +38,9 @@ impl<'a> Image<'a> {
 
     /// Sets the word at an address and renews its block's check.
     fn set(&mut self, address: u32, word: u32)
-        requires { ⌜ address < image-size (now (now self .bytes)) ⌝ ∗ ⌜ sound (address / 126) (block-at (now (now self .bytes)) (address / 126)) ≡ true ⌝ }
-        ensures cells { λ _. ⌜ ((k : ℕ) → image-cell (now (now (self .exit) .bytes)) k ≡ put-cells (image-cell (now (now (self .entry) .bytes))) address word k) ⌝ }
-        ensures same { λ _. ⌜ image-size (now (now (self .exit) .bytes)) ≡ image-size (now (now (self .entry) .bytes)) ⌝ }
+        requires { ⌜ address < image-size (now self) ⌝ ∗ ⌜ readable-block (now self) (address / 126) ≡ true ⌝ }
+        ensures cells { λ _. ⌜ ((k : ℕ) → image-cell (now (self .exit)) k ≡ put-cells (image-cell (now (self .entry))) address word k) ⌝ }
+        ensures same { λ _. ⌜ image-size (now (self .exit)) ≡ image-size (now (self .entry)) ⌝ }
         ensures bytes { λ _. ⌜ Word-alone address (now (now (self .entry) .bytes)) (now (now (self .exit) .bytes)) ⌝ }
     {
         let a = 512 * (address as usize / 126);
@@ -51,11 +51,11 @@ impl<'a> Image<'a> {
 }
 
 pub impl<'a> Memory for Image<'a> as ImageMemory {
-    ghost size = { λ s. image-size (behind (s .bytes)) };
+    ghost size = { λ s. image-size s };
 
-    ghost cell = { λ s k. image-cell (behind (s .bytes)) k };
+    ghost cell = { λ s. image-cell s };
 
-    ghost small = { λ s. image-small (behind (s .bytes)) };
+    ghost small = { λ s. image-small s };
 
     fn size(&self) -> u32 {
         (self.bytes.len() / 512 * 126).min(4096) as u32
@@ -74,10 +74,12 @@ pub impl<'a> Memory for Image<'a> as ImageMemory {
         Ok(word_of(&self.bytes[a..a + 512], i))
     }
 
+    /// Beyond what each memory promises: it changes the bytes of the word and of the check of its
+    /// block alone, and where it is refused no byte.
     fn write(&mut self, address: u32, word: u32) -> Result<(), Fault>
-        ensures answer { λ r. ⌜ r ≡ write-answer (image-size (now (now (self .entry) .bytes))) (image-cell (now (now (self .entry) .bytes))) address ⌝ }
-        ensures cells { λ _. ⌜ ((k : ℕ) → image-cell (now (now (self .exit) .bytes)) k ≡ write-cells (image-size (now (now (self .entry) .bytes))) (image-cell (now (now (self .entry) .bytes))) address word k) ⌝ }
-        ensures same { λ _. ⌜ image-size (now (now (self .exit) .bytes)) ≡ image-size (now (now (self .entry) .bytes)) ⌝ }
+        ensures answer { λ r. ⌜ r ≡ write-answer (image-size (now (self .entry))) (image-cell (now (self .entry))) address ⌝ }
+        ensures cells { λ _. ⌜ ((k : ℕ) → image-cell (now (self .exit)) k ≡ write-cells (image-size (now (self .entry))) (image-cell (now (self .entry))) address word k) ⌝ }
+        ensures same { λ _. ⌜ image-size (now (self .exit)) ≡ image-size (now (self .entry)) ⌝ }
         ensures bytes { λ r. ⌜ Bytes-kept address (now (now (self .entry) .bytes)) (now (now (self .exit) .bytes)) r ⌝ }
     {
         if address >= self.size() {
