@@ -1,0 +1,4 @@
+pub mod Blocks
+pub mod Damage
+pub mod Images
+pub mod ZeroBlocks
