@@ -102,24 +102,18 @@ pub fn make(profile: Profile, seed: u64, letters: Letters) -> Vec<Vec<u8>> {
     m.lines
 }
 
-/// A script of exactly 64 KiB for measuring: `make` repeated with further seeds, without starting
-/// again, and filled up with ticks.
-pub fn full(profile: Profile, seed: u64, letters: Letters) -> Vec<u8> {
+/// A script of 64 KiB for measuring: lines that are played once, then others again and again. It is
+/// filled up with ticks.
+pub fn full(once: &[Vec<u8>], again: &[Vec<u8>]) -> Vec<u8> {
     let mut all = Vec::with_capacity(INPUT_MAX);
-    for s in seed.. {
-        let lines = make(profile, s, letters);
-        for line in &lines {
-            if s > seed && line.starts_with(b"N") {
-                continue;
-            }
-            if all.len() + line.len() > INPUT_MAX {
-                while all.len() + 2 <= INPUT_MAX {
-                    all.extend_from_slice(b"T\n");
-                }
-                return all;
-            }
-            all.extend_from_slice(line);
+    for line in once.iter().chain(again.iter().cycle()) {
+        if all.len() + line.len() > INPUT_MAX {
+            break;
         }
+        all.extend_from_slice(line);
+    }
+    while all.len() + 2 <= INPUT_MAX {
+        all.extend_from_slice(b"T\n");
     }
     all
 }
@@ -689,7 +683,8 @@ mod tests {
     #[test]
     fn full_scripts_are_full() {
         for profile in [Profile::Hot, Profile::Expire, Profile::Lines, Profile::Bounds] {
-            let size = full(profile, 1, Letters::ALL).len();
+            let lines = make(profile, 1, Letters::ALL);
+            let size = full(&lines, &lines[1..]).len();
             assert!(size == INPUT_MAX || size == INPUT_MAX - 1, "{size}");
         }
     }
