@@ -22,20 +22,20 @@ use messages::request::Request;
 use std::test::*;
 
 /// A request to fill a row with.
-const REQUEST: Request = Request::Load {
+pub const REQUEST: Request = Request::Load {
     wave: 0,
     address: 0,
 };
 
 /// An answer to fill a row with.
-const ANSWER: Answer = Answer::Store {
+pub const ANSWER: Answer = Answer::Store {
     wave: 0,
     address: 0,
     stamp: 0,
 };
 
 /// Makes the calls in order: what the last one came to, if there is one.
-fn last<Q: LaneNet<Request>, R: LaneNet<Answer>, M: Memory, P: LifetimePolicy>(
+pub fn last<Q: LaneNet<Request>, R: LaneNet<Answer>, M: Memory, P: LifetimePolicy>(
     machine: &mut Machine<Q, R, M, P>,
     calls: &[Call],
 ) -> Option<Outcome> {
