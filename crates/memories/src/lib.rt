@@ -56,7 +56,6 @@ mod tests {
         check_eq(memory.read(3), Ok(13))?;
         check_eq(memory.read(4), Err(Fault::UnknownAddress))?;
         check_eq(memory.write(3, 7), Ok(()))?;
-        check_eq(memory.read(1), Ok(11))?;
         check_eq(memory.read(2), Ok(12))?;
         check_eq(memory.read(3), Ok(7))
     }

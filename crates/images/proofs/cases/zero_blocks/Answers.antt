@@ -17,7 +17,8 @@ total-zero bs zero l z = refl
 total-zero bs (suc n) l z = omega (arith, total-zero bs n (omega arith) z, z n (omega arith))
 
 -- the check of a sound block k of zero words
-check-word : (bs : List ℕ) (k : ℕ) → k < 4294967296 → Zero-words bs → sound k bs ≡ true → word-at bs 127 ≡ 4294967295 - k
+check-word : (bs : List ℕ) (k : ℕ) → k < 4294967296 → Zero-words bs → sound k bs ≡ true
+    → word-at bs 127 ≡ 4294967295 - k
 check-word bs k f z s =
     let p = and-parts (eqb (word-at bs 126) k) (eqb (word-at bs 127) (check-of bs)) s in
     let number = eqb-true (word-at bs 126) k (p .0) in
