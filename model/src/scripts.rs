@@ -135,8 +135,8 @@ const EVEN: Mix = Mix {
     load: 6,
     store: 3,
     atomic: 3,
-    serve: 9,
-    deliver: 9,
+    serve: 13,
+    deliver: 13,
     tick: 2,
     evict: 1,
     forget: 1,
@@ -268,6 +268,40 @@ impl Maker {
             self.mixture(n, &mix, &addresses, &[0, 1]);
             let n = self.rng.pick(&[1, 1, 2, 5, 9, 10, 11, 12, 20]);
             self.ticks(n);
+            if self.rng.one_in(2) {
+                self.at_the_end_of_a_lease(&addresses);
+            }
+        }
+    }
+
+    /// A lease, and what is made of it at its last tick or one beside that.
+    fn at_the_end_of_a_lease(&mut self, addresses: &[u64]) {
+        let (core, other) = (self.core(), self.core());
+        let address = self.rng.pick(addresses);
+        self.call(b'K', &[core, address]);
+        self.write(b'L', core, 0, address);
+        self.call(b'V', &[core]);
+        self.call(b'D', &[core]);
+        if self.rng.one_in(3) {
+            self.call(b'E', &[address]);
+        }
+        let letter = self.rng.pick(b"SAX");
+        if self.rng.one_in(2) {
+            self.write(letter, other, 1, address);
+            self.call(b'V', &[other]);
+            self.call(b'D', &[other]);
+        }
+        let n = self.rng.pick(&[9, 10, 10, 11]);
+        self.ticks(n);
+        for _ in 0..3 {
+            match self.rng.below(4) {
+                0 => self.call(b'L', &[core, 0, address]),
+                1 => self.call(b'F', &[other, 1]),
+                2 => self.write(letter, other, 1, address),
+                _ => self.call(b'E', &[address]),
+            }
+            self.call(b'V', &[other]);
+            self.call(b'D', &[other]);
         }
     }
 

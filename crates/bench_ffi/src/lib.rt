@@ -1,4 +1,7 @@
 //! Rows of calls played on a machine, for measuring from outside.
+ghost use mathlib.Core.Path.{_≡_};
+ghost use Prim.Native.Nat.{_≤_};
+ghost use Rattle.calls.specs.declared.call.Call.the-variants as call;
 use calls::call::Call;
 use calls::call::Protocol;
 use calls::outcome::Delivered;
@@ -19,8 +22,13 @@ use std::alloc::AllocError;
 use std::alloc::Global;
 
 /// The call that four words name: kind, core, address and value. Waves are 0.
-fn call_of(row: [u32; 4]) -> Call {
-    let [kind, core, address, value] = row;
+fn call_of(kind: u32, core: u32, address: u32, value: u32) -> Call
+    ensures load { λ r. ⌜ (kind ≡ 0 → r ≡ call.Load core 0 address) ⌝ }
+    ensures store { λ r. ⌜ (kind ≡ 1 → r ≡ call.Store core 0 address value) ⌝ }
+    ensures serve { λ r. ⌜ (kind ≡ 2 → r ≡ call.Serve core) ⌝ }
+    ensures deliver { λ r. ⌜ (kind ≡ 3 → r ≡ call.Deliver core) ⌝ }
+    ensures tick { λ r. ⌜ (4 ≤ kind → r ≡ call.Tick) ⌝ }
+{
     match kind {
         0 => Call::Load {
             core,
@@ -44,24 +52,20 @@ fn calls_of(heap: Global, words: &[u32]) -> Result<Vec<Call>, AllocError> {
     let mut calls = Vec::new(heap);
     let (rows, _) = words.as_chunks::<4>();
     for row in rows {
-        calls.push(call_of(*row))?;
+        let [kind, core, address, value] = *row;
+        calls.push(call_of(kind, core, address, value))?;
     }
     Ok(calls)
 }
 
-/// A number for what a call came to.
+/// A number for what a call came to: a value, the clock or a refusal's number, else 0.
 fn worth(outcome: Outcome) -> u32 {
     match outcome {
-        Outcome::Started => 1,
         Outcome::Hit { value, .. } => value,
-        Outcome::Sent => 2,
-        Outcome::Served => 3,
         Outcome::Delivered(Delivered::Load { value, .. }) => value,
-        Outcome::Delivered(Delivered::Store { .. }) => 4,
-        Outcome::Delivered(Delivered::Atomic { value, .. }) => value,
-        Outcome::Delivered(Delivered::Fault { block, .. }) => block,
         Outcome::Ticked(clock) => clock,
         Outcome::Refused(refusal) => refusal.number(),
+        _ => 0,
     }
 }
 
@@ -73,7 +77,8 @@ fn make_all<Q: LaneNet<Request>, R: LaneNet<Answer>, M: Memory>(
 ) -> u32 {
     let mut sum = sum;
     for call in calls {
-        sum = sum.wrapping_mul(31).wrapping_add(worth(make(machine, *call)));
+        sum = sum.wrapping_mul(31)
+            .wrapping_add(worth(make(machine, *call)));
     }
     sum
 }
@@ -132,7 +137,14 @@ pub extern "C" fn bench_ffi_run(
     } else {
         Protocol::Weak
     };
-    match run(heap, Call::Start { cores, protocol }, lifetime, before, calls, rounds) {
+    match run(
+        heap,
+        Call::Start { cores, protocol },
+        lifetime,
+        before,
+        calls,
+        rounds,
+    ) {
         Ok(sum) => sum,
         Err(_) => 0,
     }

@@ -6,6 +6,7 @@ use std::process::{Command, ExitCode, Stdio};
 use std::sync::Mutex;
 use std::sync::atomic::{AtomicU64, Ordering};
 use std::thread;
+use std::time::{Duration, Instant};
 
 use tcmodel::scripts::{Met, PROFILES, Profile, make, profile_of};
 use tcmodel::{Letters, play};
@@ -20,6 +21,9 @@ const USAGE: &str = "usage: compare [--tcrun PATH] [--seeds N] [--seed S] [--let
   --jobs N           how many at a time (as many as there are processors)
   --counts           also print how often each answer was met
   --print            print the script of the first seed and compare nothing";
+
+/// How long a script is shortened.
+const SHORTENING: Duration = Duration::from_secs(20);
 
 struct Options {
     tcrun: PathBuf,
@@ -121,8 +125,10 @@ impl Options {
         Ok(self.on_tcrun(&script)? != self.on_model(&script))
     }
 
-    /// Drops lines while the rest still differs, until no single line can go.
+    /// Drops lines while the rest still differs, until no single line can go (and no two, in a short
+    /// script), or until the time is over.
     fn shorten(&self, mut lines: Vec<Vec<u8>>) -> Result<Vec<Vec<u8>>, String> {
+        let end = Instant::now() + SHORTENING;
         // Nothing after the first difference can be its cause, as a rule.
         let script = lines.concat();
         let (a, b) = (self.on_tcrun(&script)?, self.on_model(&script));
@@ -135,6 +141,10 @@ impl Options {
             let mut dropped = false;
             let mut at = 0;
             while at < lines.len() {
+                if Instant::now() > end {
+                    println!("shortening took too long; the script may have lines to spare");
+                    return Ok(lines);
+                }
                 let to = (at + part).min(lines.len());
                 let mut fewer = lines[..at].to_vec();
                 fewer.extend_from_slice(&lines[to..]);
@@ -148,7 +158,28 @@ impl Options {
             // Single lines again as long as one goes.
             part = if part > 1 { part / 2 } else { usize::from(dropped) };
         }
+        while lines.len() <= 40 && Instant::now() < end {
+            let Some(fewer) = self.without_two(&lines)? else {
+                break;
+            };
+            lines = fewer;
+        }
         Ok(lines)
+    }
+
+    /// The lines without two of them, if they still differ.
+    fn without_two(&self, lines: &[Vec<u8>]) -> Result<Option<Vec<Vec<u8>>>, String> {
+        for i in 0..lines.len() {
+            for j in i + 1..lines.len() {
+                let mut fewer = lines.to_vec();
+                fewer.remove(j);
+                fewer.remove(i);
+                if self.differs(&fewer)? {
+                    return Ok(Some(fewer));
+                }
+            }
+        }
+        Ok(None)
     }
 }
 
