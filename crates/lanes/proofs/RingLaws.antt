@@ -8,22 +8,13 @@ use native.Mathlib.Nat.{mod-lt, mod-eq-of-lt}
 use native.Mathlib.Omega.{arith}
 use lib.Dec.{leb}
 use lib.ListN.{length, getD, take, drop, set, length-set}
-use Rattle.std.proofs.shelf.Tests.{cases-eq, cases-lt, eq-eqb, ne-eqb}
+use Rattle.std.proofs.shelf.Tests.{cases-eq, cases-lt}
 use Rattle.std.proofs.shelf.Ways.{tells}
 use Rattle.std.specs.declared.option.Option.the-variants.{Some}
-use Rattle.lanes.specs.Lanes.{oldest, with-lane, take-lanes}
+use Rattle.lanes.specs.Lanes.{oldest, take-lanes}
 use Rattle.lanes.specs.Rings.{wrap, slots, row-depth, lanes-at, add-lane, none-above}
+use Rattle.lanes.proofs.LaneLists.{by-lane}
 use Rattle.lanes.proofs.Slots.{lane-fits, lane-length, lane-first, lane-rest, lane-added, lane-else, wrap-below}
-
--- lanes that hold xs in lane k, and what F holds in the others
-by-lane :
-    {A : Type 0} (F G : ℕ → List A) (k : ℕ) (xs : List A) →
-    G k ≡ xs → ((j : ℕ) → (j ≡ k → ⊥) → G j ≡ F j) →
-    (j : ℕ) → G j ≡ with-lane F k xs j
-by-lane F G k xs here there j = ⊎-elim
-    (λ (q : j ≡ k). rw (q, eq-eqb k k refl) here)
-    (λ (q : j ≡ k → ⊥). rw (ne-eqb j k q) (there j q))
-    (cases-eq j k)
 
 -- a ring of depth 0 holds nothing
 shut : {A : Type 0} (row : List A) (heads counts : List ℕ) (k : ℕ) → length (lanes-at row 0 heads counts k) ≡ 0

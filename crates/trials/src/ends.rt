@@ -1,5 +1,4 @@
 //! Machines over ends that differ: hops, packed lanes, images, splits and the learner.
-use crate::tests::ANSWER;
 use crate::tests::REQUEST;
 use crate::tests::last;
 use calls::call::Call;
@@ -9,14 +8,12 @@ use calls::outcome::Outcome;
 use calls::outcome::OutcomeDebug;
 use calls::outcome::OutcomePartialEq;
 use calls::refusal::Refusal;
+use hops::hop::Hop;
+use hops::hop::HopNet;
 use images::image::Image;
 use images::image::ImageMemory;
-use lanes::hop::Hop;
-use lanes::hop::HopNet;
 use lanes::ring::Ring;
 use lanes::ring::RingNet;
-use lifetimes::fixed::Fixed;
-use lifetimes::fixed::FixedPolicy;
 use lifetimes::learner::Learner;
 use lifetimes::learner::LearnerPolicy;
 use machine::tables::Machine;
@@ -24,6 +21,9 @@ use memories::split::Split;
 use memories::split::SplitMemory;
 use memories::words::Words;
 use memories::words::WordsMemory;
+use messages::form::AnswerWords;
+use packs::packed::Packed;
+use packs::packed::PackedNet;
 use std::test::*;
 
 const START: Call = Call::Start {
@@ -41,6 +41,7 @@ fn load(address: u32) -> Call {
 }
 
 const SERVE: Call = Call::Serve { core: 0 };
+
 const DELIVER: Call = Call::Deliver { core: 0 };
 
 /// Two blocks of zero words; a word of block 1 was damaged.
@@ -62,12 +63,11 @@ fn damaged() -> [u8; 1024] {
 fn fault_at_core(rt: LibcRuntime) -> Result<(), Fail> {
     let mut near = [REQUEST; 16];
     let mut far = [REQUEST; 16];
-    let mut answers = [ANSWER; 32];
     let mut bytes = damaged();
     let mut words = [7u32; 300];
     let mut m = Machine::new(
         Hop::new(Ring::new(&mut far), Ring::new(&mut near)),
-        Ring::new(&mut answers),
+        Packed::new(),
         Split::new(Image::new(&mut bytes), Words::new(&mut words)),
         Learner::new(10, 100),
         rt.alloc(),
@@ -84,13 +84,19 @@ fn fault_at_core(rt: LibcRuntime) -> Result<(), Fail> {
         address: 250,
         value: 0,
     };
-    check_eq(last(&mut m, &[load(250), SERVE, DELIVER]), Some(Outcome::Delivered(sound)))?;
+    check_eq(
+        last(&mut m, &[load(250), SERVE, DELIVER]),
+        Some(Outcome::Delivered(sound)),
+    )?;
     let word = Delivered::Load {
         wave: 3,
         address: 253,
         value: 7,
     };
-    check_eq(last(&mut m, &[load(253), SERVE, DELIVER]), Some(Outcome::Delivered(word)))?;
+    check_eq(
+        last(&mut m, &[load(253), SERVE, DELIVER]),
+        Some(Outcome::Delivered(word)),
+    )?;
     let nowhere = Some(Outcome::Refused(Refusal::UnknownAddress));
     check_eq(last(&mut m, &[load(504)]), nowhere)?;
     check_eq(last(&mut m, &[load(503)]), Some(Outcome::Sent))
