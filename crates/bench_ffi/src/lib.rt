@@ -1,4 +1,6 @@
 //! Rows of calls played on a machine, for measuring from outside.
+#![tactic(auto)]
+
 ghost use Rattle.std.specs.Prelude.{◌≡◌, ◌≤◌};
 ghost use Rattle.calls.specs.declared.call.Call.TheVariants as call;
 

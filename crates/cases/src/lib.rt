@@ -1,4 +1,6 @@
 //! The table of all worked cases.
+#![tactic(auto)]
+
 ghost use Rattle.cases.specs.WorkedCases.{WorkedCases};
 
 use images::cases::zero_blocks;

@@ -1,5 +1,7 @@
 //! Plays a script on a machine over a damaged image, and prints what it comes to: the fault is seen
 //! at the core, with the damaged block and the address that the core named.
+#![tactic(auto)]
+
 use hops::hop::Hop;
 use images::image::Image;
 use lanes::ring::Ring;

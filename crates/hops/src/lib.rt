@@ -1,4 +1,6 @@
 //! One lane net of two.
+#![tactic(auto)]
+
 pub mod hop;
 
 #[cfg(test)]

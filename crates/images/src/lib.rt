@@ -1,4 +1,6 @@
 //! A memory in blocks of bytes that tell damage.
+#![tactic(auto)]
+
 mod block;
 pub mod cases;
 pub mod image;

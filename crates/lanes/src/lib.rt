@@ -1,4 +1,6 @@
 //! Lane nets: a list of messages for each of 16 lanes.
+#![tactic(auto)]
+
 pub mod net;
 pub mod ring;
 

@@ -1,4 +1,6 @@
 //! Lifetime policies: how long a lease is given for.
+#![tactic(auto)]
+
 pub mod fixed;
 pub mod learner;
 pub mod policy;

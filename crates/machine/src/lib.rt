@@ -1,4 +1,6 @@
 //! The machine over any two nets, memory and lifetime policy.
+#![tactic(auto)]
+
 pub mod checks;
 pub mod issues;
 pub mod makes;

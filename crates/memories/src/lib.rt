@@ -1,4 +1,6 @@
 //! Memories: words by address, some of which cannot be read.
+#![tactic(auto)]
+
 pub mod memory;
 pub mod split;
 pub mod words;

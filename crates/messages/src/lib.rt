@@ -1,4 +1,6 @@
 //! What travels between a core and the bank.
+#![tactic(auto)]
+
 pub mod answer;
 pub mod form;
 pub mod request;

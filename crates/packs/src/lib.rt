@@ -1,4 +1,6 @@
 //! A lane net that stores messages as words.
+#![tactic(auto)]
+
 pub mod packed;
 
 #[cfg(test)]

@@ -8,7 +8,7 @@ use Rattle.std.proofs.lemmas.Fmt.{decimal_by_steps, decimal_nonempty, length-dec
 use Rattle.std.proofs.lemmas.List.{take_all}
 use Rattle.std.proofs.lemmas.Str.Parse.{numerals_by_value, tells_by_index}
 use Rattle.std.proofs.lemmas.Bool.{le-leb, and_from, cond-true, eq-eqb, ne_eqb}
-use Rattle.std.specs.List.{AllByRecursion as All}
+use Rattle.std.specs.List.{AllByRecursion}
 use Rattle.script.specs.Fields.{split, onto, bind, first, others, digits, word, number}
 use Rattle.script.specs.Lines.{letter_of, start_of, call_of, parse_line, script}
 use Rattle.script.specs.Written.{Words, sign, letter, fields, spaced, written, lines, Back, AllBack}
@@ -40,7 +40,7 @@ number_decimal n h =
 
 -- byte b does not stand in the list
 abbrev Without : ℕ → List ℕ → Type 0
-Without b xs = All (λ x. x ≡ b → ⊥) xs
+Without b xs = AllByRecursion (λ x. x ≡ b → ⊥) xs
 
 without_append : (b : ℕ) (xs ys : List ℕ) → Without b xs → Without b ys → Without b (xs ++ ys)
 without_append b [] ys h k = k
@@ -63,11 +63,11 @@ split_whole : (b : ℕ) (f : List ℕ) → Without b f → split b f ≡ f ∷ [
 split_whole b [] h = refl
 split_whole b (x ∷ f) h = rw (ne_eqb x b h.0) (ap (onto x) (split_whole b f h.1))
 
-split_spaced : (f : List ℕ) (fs : List (List ℕ)) → Without 32 f → All (Without 32) fs → split 32 (f ++ spaced fs) ≡ f ∷ fs
+split_spaced : (f : List ℕ) (fs : List (List ℕ)) → Without 32 f → AllByRecursion (Without 32) fs → split 32 (f ++ spaced fs) ≡ f ∷ fs
 split_spaced f [] h k = rw (append-nil f) (split_whole 32 f h)
 split_spaced f (g ∷ fs) h k = split_part 32 f (g ++ spaced fs) h ∙ ap (λ gs. f ∷ gs) (split_spaced g fs k.0 k.1)
 
-without_spaced : (fs : List (List ℕ)) → All (Without 10) fs → Without 10 (spaced fs)
+without_spaced : (fs : List (List ℕ)) → AllByRecursion (Without 10) fs → Without 10 (spaced fs)
 without_spaced [] h = tt
 without_spaced (f ∷ fs) h = (λ e. omega arith, without_append 10 f (spaced fs) h.0 (without_spaced fs h.1))
 
@@ -80,7 +80,7 @@ without_sign b Strong h = (λ e. omega arith, tt)
 without_sign b Weak h = (λ e. omega arith, tt)
 
 -- neither a blank nor byte 10 stands in a field
-without_fields : (b : ℕ) (c : Call) → b < 48 → Words c → All (Without b) (fields c)
+without_fields : (b : ℕ) (c : Call) → b < 48 → Words c → AllByRecursion (Without b) (fields c)
 without_fields b (Start n p) low h = (without_decimal b n low h, (without_sign b p low, tt))
 without_fields b (Load c w a) low h = (without_decimal b c low h.0, (without_decimal b w low h.1, (without_decimal b a low h.2, tt)))
 without_fields b (Store c w a v) low h =
@@ -117,7 +117,7 @@ parse_written c h =
 without_written : (c : Call) → Words c → Without 10 (written c)
 without_written c h = (λ e. omega (arith, above c), without_spaced (fields c) (without_fields 10 c (lit< tt) h))
 
-read_lines : (cs : List Call) → All Words cs → script (lines cs) ≡ map (λ c. Some c) cs
+read_lines : (cs : List Call) → AllByRecursion Words cs → script (lines cs) ≡ map (λ c. Some c) cs
 read_lines [] h = refl
 read_lines (c ∷ cs) h =
     script_more (lines (c ∷ cs)) (written c) (lines cs) (split_part 10 (written c) (lines cs) (without_written c h.0))

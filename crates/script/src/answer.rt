@@ -70,6 +70,6 @@ pub fn write_line(out: &mut String, number: usize, outcome: Outcome) -> Result<(
     ensures { string_bytes out.new ≡ (if is_ok result then string_bytes out.old ++ answer_line number outcome else string_bytes out.old) }
 {
     let answer = Answer(outcome);
-    let line = format!(in out.allocator(); "{number} {answer}\n")?;
+    let line = format!(in *out.allocator(); "{number} {answer}\n")?;
     out.push_str(line.as_str())
 }

@@ -1,4 +1,6 @@
 //! The lines of a script as calls, and the lines that tell their outcomes.
+#![tactic(auto)]
+
 pub mod answer;
 mod bytes;
 mod fields;

@@ -1,4 +1,6 @@
 //! tcrun: plays the script on standard input, and prints a line for each of its lines.
+#![tactic(auto)]
+
 use player::board::run;
 use std::io;
 use std::io::{Read, Write};

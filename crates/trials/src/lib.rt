@@ -1,4 +1,6 @@
 //! Trials of the machine over the ends of its interfaces: examples and edges.
+#![tactic(auto)]
+
 #[cfg(test)]
 mod ends;
 #[cfg(test)]

@@ -9,9 +9,9 @@ returns g c =
     record {
       lanes =
           added (lists c.args.far.now c.args.near.now) (lists c.settle.new.far c.settle.new.near)
-          (lists c.make-room.new.far c.make-room.new.near) (lists c.push.new.far c.push.new.near)
+          (lists c.make_room.new.far c.make_room.new.near) (lists c.push.new.far c.push.new.near)
           c.args.lane c.args.message c.settle.ensures.lanes c.settle.ensures.whole
-          c.make-room.ensures.lanes (omega arith) c.push.ensures.lanes;
+          c.make_room.ensures.lanes (omega arith) c.push.ensures.lanes;
       far = cc;
       near = cc;
     }

@@ -3,8 +3,8 @@ use Rattle.hops.specs.Hops.{both}
 use Rattle.hops.proofs.HopLaws.{same_total}
 use Rattle.hops.proofs.hop.make_room.Goals as goal
 
-pub move-on-requires : goal.move-on-requires
-move-on-requires g c =
+pub move_on-requires : goal.move_on-requires
+move_on-requires g c =
     let k = c.args.lane in
     let f = g.F.LaneNet.lanes c.loop-far.far k in
     let n = g.N.LaneNet.lanes c.loop-far.near k in

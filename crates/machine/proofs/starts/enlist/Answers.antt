@@ -8,7 +8,7 @@ pub returns-in-Some : goal.returns-in-Some
 returns-in-Some c =
     record {
       items =
-          ap (map core_state) c.push-reserved.ensures.items
+          ap (map core_state) c.push_reserved.ensures.items
           ∙ map-append core_state (vec_items c.args.cores.now) _
           ∙ ap {A = CoreState} (λ x. map core_state (vec_items c.args.cores.now) ++ x ∷ []) c.clear.ensures;
       len = search rules;

@@ -8,17 +8,17 @@ returns-then-i-lane g c =
     at_end g.M.FiveWords.message c.args.lane.groups c.args.lane.count full
     c.loop-i.i (inl (omega arith)) c.loop-i.invariant
 
-pub returns-then-not-is-message : goal.returns-then-not-is-message
-returns-then-not-is-message g c =
+pub returns-then-not-is_message : goal.returns-then-not-is_message
+returns-then-not-is_message g c =
     let full : length c.args.lane.groups ≡ 8 = omega arith in
     at_none g.M.FiveWords.message c.args.lane.groups c.args.lane.count full
-    c.loop-i.i (omega arith) (omega arith) (sym c.is-message.ensures ∙ c.if-not-is-message.true) c.loop-i.invariant
+    c.loop-i.i (omega arith) (omega arith) (sym c.is_message.ensures ∙ c.if-not-is_message.true) c.loop-i.invariant
 
 pub loop-i-preserved : goal.loop-i-preserved
 loop-i-preserved g c =
     let full : length c.args.lane.groups ≡ 8 = omega arith in
     at_some g.M.FiveWords.message c.args.lane.groups c.args.lane.count full
-    c.loop-i.i (omega arith) (omega arith) (sym c.is-message.ensures ∙ c.if-not-is-message.false) c.loop-i.invariant
+    c.loop-i.i (omega arith) (omega arith) (sym c.is_message.ensures ∙ c.if-not-is_message.false) c.loop-i.invariant
 
 pub returns : goal.returns
 returns g c =

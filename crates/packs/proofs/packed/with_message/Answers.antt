@@ -6,7 +6,7 @@ pub returns : goal.returns
 returns g c =
     let full : length c.args.lane.groups ≡ 8 = omega arith in
     let m = c.args.message in
-    let back = ap g.M.FiveWords.message c.to-words.ensures ∙ g.met.M.FiveWords.back m in
+    let back = ap g.M.FiveWords.message c.to_words.ensures ∙ g.met.M.FiveWords.back m in
     rw (c.appended.ensures.groups, c.appended.ensures.count)
     (one_more g.M.FiveWords.message c.args.lane.groups c.args.lane.count full
-    c.held-in.result c.to-words.result m c.held-in.ensures (omega arith) back)
+    c.held_in.result c.to_words.result m c.held_in.ensures (omega arith) back)

@@ -15,9 +15,9 @@ use Rattle.player.proofs.board.run_over.Goals as goal
 
 pub returns : goal.returns
 returns c =
-    let m = c.in-ok-machine.machine in
-    let p = c.in-ok-machine.ensures.parts in
-    let f = c.in-ok-machine.ensures.fresh in
+    let m = c.in_ok-machine.machine in
+    let p = c.in_ok-machine.ensures.parts in
+    let f = c.in_ok-machine.ensures.fresh in
     let s : State = record {
       tables = tables_state m.tables;
       requests = record { lanes = ring_lanes m.requests; depth = ring_depth m.requests };
@@ -32,5 +32,5 @@ returns c =
     (ap {A = Words} (λ (x : Words). row_size x) p.2 ∙ ap (λ (xs : List ℕ). min (length xs) 4096) (c.new-3.ensures ∙ c.requires.1.1))
     (λ a. ap {A = Words} (λ (x : Words). row_cell x a) p.2 ∙ ap (λ (xs : List ℕ). word (get_or xs a 0)) (c.new-3.ensures ∙ c.requires.1.1) ∙ ap word (zeros 4096 a))
     (string_bytes c.play.new.out) (string_bytes c.new-out.result) m.policy.lifetime (script (take 65536 c.args.input.now))
-    c.in-ok-play.ensures c.new-out.ensures.bytes
+    c.in_ok-play.ensures c.new-out.ensures.bytes
     (ap {A = Fixed} (λ (x : Fixed). x.lifetime) p.3 ∙ c.new-4.ensures)

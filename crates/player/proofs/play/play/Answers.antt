@@ -7,7 +7,7 @@ use Rattle.player.proofs.play.play.Goals as goal
 
 pub loop-line-preserved : goal.loop-line-preserved
 loop-line-preserved g c =
-    let t = c.in-ok-turn.ensures in
+    let t = c.in_ok-turn.ensures in
     let here = c.loop-line.reader.rest.now in
     let next = c.line.new.self.rest.now in
     let e : script here ≡ c.in-Some.line ∷ script next = c.in-Some.ensures.cases in
