@@ -1,10 +1,9 @@
 -- What the functions of a hop do to its lanes.
-use Rattle.std.proofs.Common.{◌≡◌, ℕ, ◌+◌, ◌^◌, ◌<◌, ◌≤◌, Bool, true, false, cond, ltb, List, [], ◌∷◌, ◌++◌, length, drop, Some, None, Result, sym, refl, ap, ◌∙◌, ⊎_elim, append_assoc, arith, length-append, length-drop}
+use Rattle.std.proofs.Common.{◌≡◌, ℕ, ◌+◌, ◌^◌, ◌<◌, Bool, true, false, cond, ltb, List, [], ◌∷◌, ◌++◌, length, drop, Some, sym, refl, ap, ◌∙◌, ⊎_elim, append_assoc, arith, length-append, length-drop}
 use Rattle.std.proofs.lemmas.List.{append-nil, nil_from_length, length_push}
 use Rattle.std.proofs.lemmas.Bool.{cases_eq, lt-ltb, eq-eqb, ne_eqb}
 use Rattle.std.proofs.lemmas.Bool.Decides.{nat_tests}
-use Rattle.lanes.specs.declared.net.LaneError.{LaneError}
-use Rattle.lanes.specs.Lanes.{oldest, with_lane, take_lanes, put_lanes, Put, Taken}
+use Rattle.lanes.specs.Lanes.{oldest, with_lane, take_lanes, put_lanes}
 use Rattle.lanes.specs.Rings.{add_lane}
 use Rattle.hops.specs.Hops.{counted, count_sum}
 use Rattle.lanes.proofs.LaneLists.{by_lane}

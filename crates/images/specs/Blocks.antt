@@ -1,5 +1,5 @@
 -- A memory in blocks of 512 bytes: 126 words, the block's number, and a check.
-use Rattle.std.specs.Prelude.{◌≡◌, ℕ, zero, suc, ◌+◌, ◌-◌, ◌*◌, ◌/◌, ◌%◌, ◌^◌, ◌<◌, ◌≤◌, min, Bool, true, cond, ◌&&◌, List, length, Ok, Err, Result, ◌==◌, slice_index}
+use Rattle.std.specs.Prelude.{◌≡◌, ℕ, zero, suc, ◌+◌, ◌-◌, ◌*◌, ◌/◌, ◌%◌, ◌^◌, ◌<◌, ◌≤◌, min, Bool, cond, ◌&&◌, List, length, Ok, Err, Result, ◌==◌, slice_index}
 use Rattle.std.specs.List.{between}
 use Rattle.memories.specs.Cells.{Cell, word, unreadable}
 use Rattle.memories.specs.declared.memory.Fault.{Fault}

@@ -1,5 +1,5 @@
 -- What an image means as a memory.
-use Rattle.std.specs.Prelude.{ℕ, ◌/◌, ◌≤◌, Bool, List}
+use Rattle.std.specs.Prelude.{ℕ, ◌≤◌, Bool}
 use Rattle.std.proofs.Common.{arith}
 use Rattle.memories.specs.Cells.{Cell}
 use Rattle.images.specs.Blocks.{block_at, cell_of, size_of, sound}

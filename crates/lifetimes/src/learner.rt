@@ -1,7 +1,7 @@
 //! A lifetime that learns from what the bank meets.
 ghost use Rattle.std.specs.Prelude.{◌≡◌, ◌≤◌, min};
 ghost use Rattle.lifetimes.specs.Learned.{LearnerCases, learned};
-ghost use Rattle.std.proofs.Common.{rules, arith};
+ghost use Rattle.std.proofs.Common.{rules};
 
 use crate::policy::{Event, LifetimePolicy};
 
@@ -36,11 +36,11 @@ impl LifetimePolicy for Learner {
 
     ghost heard = { λ s e t. (t.present ≡ learned s.longest s.present e) × (t.longest ≡ s.longest) };
 
-    ghost short = { first_of (Prim.search rules, Prim.grind (arith, Self.row.coded.inj)) };
+    ghost short = { Prim.search rules };
 
-    ghost within = { first_of (Prim.search rules, Prim.grind (arith, Self.row.coded.inj)) };
+    ghost within = { Prim.search rules };
 
-    ghost keeps = { first_of (Prim.search rules, Prim.grind (arith, Self.row.coded.inj)) };
+    ghost keeps = { Prim.search rules };
 
     fn lifetime(&self) -> u32 {
         self.present

@@ -1,5 +1,5 @@
 -- The lanes of a net, one after the other.
-use Rattle.std.proofs.Common.{◌≡◌, ℕ, suc, ◌+◌, Bool, true, ◌&&◌, eqb, List, length, refl, add-one}
+use Rattle.std.proofs.Common.{◌≡◌, ℕ, ◌+◌, true, ◌&&◌, eqb, List, length, refl, add-one}
 use Rattle.rules.specs.Starts.{lanes_empty}
 
 pub none_empty : {X : Type 0} (f : ℕ → List X) → lanes_empty f 0 ≡ true

@@ -1,5 +1,5 @@
 -- A machine as the rule book has it, by the meanings of its nets and its memory.
-use Rattle.std.specs.Prelude.{List, map, vec_items}
+use Rattle.std.specs.Prelude.{map, vec_items}
 use Rattle.lanes.specs.declared.net.LaneNet as net
 use Rattle.memories.specs.declared.memory.Memory as memory
 use Rattle.messages.specs.declared.request.Request.{Request}

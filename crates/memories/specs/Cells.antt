@@ -1,5 +1,5 @@
 -- What a memory holds, and what reading and writing do.
-use Rattle.std.specs.Prelude.{ℕ, Bool, true, false, cond, Ok, Err, Result, ◌==◌, nat_le}
+use Rattle.std.specs.Prelude.{ℕ, cond, Ok, Err, Result, ◌==◌, nat_le}
 use Rattle.memories.specs.declared.memory.Fault.{Fault}
 use Rattle.memories.specs.declared.memory.Fault.TheVariants.{UnknownAddress, Unreadable}
 

@@ -1,7 +1,7 @@
 -- A machine whose parts are those of the board is the board.
-use Rattle.std.proofs.Common.{◌≡◌, ℕ, zero, suc, List, [], ◌∷◌, ◌++◌, get_or, replicate, Option, refl, ap, ◌∙◌}
+use Rattle.std.proofs.Common.{◌≡◌, ℕ, zero, suc, List, [], ◌++◌, get_or, replicate, Option, refl, ap, ◌∙◌}
 use Rattle.calls.specs.declared.call.Call.{Call}
-use Rattle.memories.specs.Cells.{Cell, word}
+use Rattle.memories.specs.Cells.{word}
 use Rattle.rules.specs.State.{State}
 use Rattle.rules.specs.Starts.{fresh_tables}
 use Rattle.player.specs.Board.{board}

@@ -1,5 +1,5 @@
 -- One more line is played.
-use Rattle.std.proofs.Common.{◌≡◌, ℕ, ◌+◌, List, [], ◌∷◌, ◌++◌, Option, sym, ap, ◌∙◌, append_assoc}
+use Rattle.std.proofs.Common.{◌≡◌, ℕ, ◌+◌, List, ◌∷◌, ◌++◌, Option, sym, ap, ◌∙◌, append_assoc}
 use Rattle.calls.specs.declared.call.Call.{Call}
 use Rattle.rules.specs.State.{State}
 use Rattle.script.specs.Answers.{answer_line}

@@ -1,17 +1,16 @@
 -- Evicting a line.
-use Rattle.std.specs.Prelude.{ℕ, Bool, true, false, cond, ◌&&◌, List, [], ◌∷◌, ◌++◌, length, Some, None, Ok, Err, Option, Result, nat_le}
+use Rattle.std.specs.Prelude.{ℕ, Bool, cond, ◌&&◌, List, [], ◌∷◌, ◌++◌, length, Some, None, Ok, Err, Option, Result, nat_le}
 use Rattle.memories.specs.Cells.{Cell, write_answer, write_cells}
 use Rattle.memories.specs.declared.memory.Fault.{Fault}
 use Rattle.memories.specs.declared.memory.Fault.TheVariants as fault
 use Rattle.lifetimes.specs.declared.policy.Event.{Event}
 use Rattle.lifetimes.specs.declared.policy.Event.TheVariants.{LeftRunning}
-use Rattle.calls.specs.declared.refusal.Refusal.{Refusal}
 use Rattle.calls.specs.declared.refusal.Refusal.TheVariants.{UnknownAddress, NoLine, KeptFull, Unreadable}
 use Rattle.rules.specs.declared.record.Line.{Line}
 use Rattle.rules.specs.declared.record.KeptStamp.{KeptStamp}
 use Rattle.rules.specs.Stamps.{runs}
 use Rattle.rules.specs.Places.{without}
-use Rattle.rules.specs.State.{State, BankState, MemoryState}
+use Rattle.rules.specs.State.{State, BankState}
 use Rattle.rules.specs.Bank.{line_place, line_at}
 use Rattle.rules.specs.Outs.{Out, refused, with_bank}
 

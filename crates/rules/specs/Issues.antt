@@ -1,5 +1,5 @@
 -- What a core does by itself: issuing loads, stores and atomics, and forgetting a copy.
-use Rattle.std.specs.Prelude.{ℕ, Bool, true, false, cond, ◌||◌, List, [], ◌∷◌, ◌++◌, length, Some, None, Ok, Err, Option, Result, nat_le}
+use Rattle.std.specs.Prelude.{ℕ, Bool, cond, ◌||◌, length, Some, None, Ok, Err, Option, Result, nat_le}
 use Rattle.lanes.specs.declared.net.LaneError.{LaneError}
 use Rattle.lanes.specs.Lanes.{put_answer}
 use Rattle.messages.specs.declared.request.Request.{Request}
@@ -8,7 +8,7 @@ use Rattle.calls.specs.declared.refusal.Refusal.{Refusal}
 use Rattle.calls.specs.declared.refusal.Refusal.TheVariants.{UnknownCore, UnknownAddress, FenceOpen, PendingFull, LaneFull}
 use Rattle.calls.specs.declared.outcome.Loaded.{Loaded}
 use Rattle.calls.specs.declared.outcome.Loaded.TheVariants.{Hit, Sent}
-use Rattle.rules.specs.State.{State, TablesState, CoreState}
+use Rattle.rules.specs.State.{State, TablesState}
 use Rattle.rules.specs.Cores.{hit, issued, fenced, holds, copy_at, dropped}
 use Rattle.rules.specs.Outs.{Out, refused, answered, with_tables, core_at, with_core, put_net}
 

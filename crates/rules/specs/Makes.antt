@@ -1,5 +1,5 @@
 -- A call as a value: what it comes to, and the state after it.
-use Rattle.std.specs.Prelude.{ℕ, List, [], Ok, Err, Result}
+use Rattle.std.specs.Prelude.{ℕ, List, Ok, Err, Result}
 use Rattle.lifetimes.specs.declared.policy.Event.{Event}
 use Rattle.calls.specs.declared.refusal.Refusal.{Refusal}
 use Rattle.calls.specs.declared.call.Call.{Call}

@@ -1,5 +1,5 @@
 -- Looking through a row of records.
-use Rattle.std.specs.Prelude.{ℕ, ◌+◌, Bool, true, false, cond, List, [], ◌∷◌, ◌++◌, take, drop, is_some, Some, None, Option}
+use Rattle.std.specs.Prelude.{ℕ, ◌+◌, Bool, cond, List, [], ◌∷◌, ◌++◌, take, drop, is_some, Some, None, Option}
 
 -- the place of the first record that passes, counted from i
 abbrev pub place_from : {A : Type 0} → (A → Bool) → ℕ → List A → Option ℕ

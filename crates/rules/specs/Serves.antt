@@ -1,5 +1,5 @@
 -- Serving a core's oldest request.
-use Rattle.std.specs.Prelude.{ℕ, Bool, true, false, cond, List, [], ◌∷◌, length, Some, None, Ok, Err, Option, Result, nat_le}
+use Rattle.std.specs.Prelude.{ℕ, cond, List, length, Some, None, Ok, Err, Option, Result, nat_le}
 use Rattle.memories.specs.Cells.{read_answer}
 use Rattle.memories.specs.declared.memory.Fault.{Fault}
 use Rattle.memories.specs.declared.memory.Fault.TheVariants as fault
@@ -11,7 +11,7 @@ use Rattle.messages.specs.declared.answer.Answer.TheVariants as answer
 use Rattle.messages.specs.Requests.{wave_of, address_of}
 use Rattle.calls.specs.declared.refusal.Refusal.{Refusal}
 use Rattle.calls.specs.declared.refusal.Refusal.TheVariants.{UnknownCore, UnknownAddress, LaneFull, NothingWaits}
-use Rattle.rules.specs.State.{State, TablesState, BankState}
+use Rattle.rules.specs.State.{State, BankState}
 use Rattle.rules.specs.Bank.{Admitted, Banked, admit, bank_serve, with_mark}
 use Rattle.rules.specs.Outs.{Out, refused, with_tables, with_bank, put_net, take_net}
 

@@ -1,5 +1,5 @@
 -- Making and starting a machine, and the clock.
-use Rattle.std.specs.Prelude.{ℕ, zero, suc, ◌+◌, Bool, true, false, cond, not, ◌&&◌, ◌||◌, List, [], length, replicate, ◌==◌, nat_le}
+use Rattle.std.specs.Prelude.{ℕ, zero, suc, ◌+◌, Bool, true, cond, ◌&&◌, List, [], length, replicate, ◌==◌, nat_le}
 use Rattle.calls.specs.declared.call.Protocol.{Protocol}
 use Rattle.calls.specs.declared.call.Protocol.TheVariants.{Strong}
 use Rattle.calls.specs.declared.refusal.Refusal.TheVariants.{CannotStart, ClockAtEnd}

@@ -1,5 +1,5 @@
 -- The lines that tell the outcomes of a script's calls.
-use Rattle.std.specs.Prelude.{ℕ, List, [], ◌∷◌, ◌++◌, codes, decimal}
+use Rattle.std.specs.Prelude.{ℕ, List, ◌++◌, codes, decimal}
 use Rattle.calls.specs.Causes.{number_of}
 use Rattle.calls.specs.declared.outcome.Delivered.{Delivered}
 use Rattle.calls.specs.declared.outcome.Delivered.TheVariants.{Load, Store, Atomic, Fault}

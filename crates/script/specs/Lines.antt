@@ -1,5 +1,5 @@
 -- The calls that the lines of a script write.
-use Rattle.std.specs.Prelude.{ℕ, Bool, true, false, cond, List, [], ◌∷◌, Some, None, Option, ◌==◌}
+use Rattle.std.specs.Prelude.{ℕ, cond, List, [], ◌∷◌, Some, None, Option, ◌==◌}
 use Rattle.calls.specs.declared.call.Call.{Call}
 use Rattle.calls.specs.declared.call.Call.TheVariants.{Start, Load, Store, Serve, Deliver, Tick}
 use Rattle.calls.specs.declared.call.Protocol.{Protocol}

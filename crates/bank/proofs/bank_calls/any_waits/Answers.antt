@@ -1,4 +1,4 @@
-use Rattle.std.proofs.Common.{◌≡◌, is_some, sym, ap, ◌∙◌}
+use Rattle.std.proofs.Common.{is_some, sym, ap, ◌∙◌}
 use Rattle.rules.proofs.Firsts.{place_here, place_later, place_none}
 use Rattle.bank.proofs.bank_calls.any_waits.Goals as goal
 

@@ -1,4 +1,4 @@
-use Rattle.std.proofs.Common.{◌≡◌, is_some, sym, ap, ◌∙◌}
+use Rattle.std.proofs.Common.{is_some, sym, ap, ◌∙◌}
 use Rattle.rules.proofs.Firsts.{place_here, place_later, place_none}
 use Rattle.cores.proofs.core_calls.any_write_on.Goals as goal
 

@@ -1,4 +1,4 @@
-use Rattle.std.proofs.Common.{◌≡◌, length, refl, arith}
+use Rattle.std.proofs.Common.{refl, arith}
 use Rattle.hops.proofs.HopLaws.{far_taken, near_taken}
 use Rattle.hops.proofs.hop.advance.Goals as goal
 

@@ -1,5 +1,3 @@
-use Rattle.std.proofs.Common.{sym, ap, ◌∙◌}
-use Rattle.hops.specs.Hops.{count_sum}
 use Rattle.hops.proofs.HopLaws.{counted_length}
 use Rattle.hops.proofs.hop.held.Goals as goal
 

@@ -1,4 +1,4 @@
-use Rattle.std.proofs.Common.{length, arith, length-append}
+use Rattle.std.proofs.Common.{arith}
 use Rattle.hops.specs.Hops.{both}
 use Rattle.hops.proofs.HopLaws.{same_total}
 use Rattle.hops.proofs.hop.make_room.Goals as goal

@@ -1,5 +1,5 @@
-use Rattle.std.proofs.Common.{◌≡◌, List, [], ◌++◌, ap, ◌∙◌, arith}
-use Rattle.hops.proofs.HopLaws.{settled, emptied, counted_is}
+use Rattle.std.proofs.Common.{arith}
+use Rattle.hops.proofs.HopLaws.{settled, emptied}
 use Rattle.hops.proofs.hop.settle.Goals as goal
 
 pub returns-then-held-eq0 : goal.returns-then-held-eq0

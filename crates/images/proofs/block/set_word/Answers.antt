@@ -1,5 +1,4 @@
-use Rattle.std.proofs.Common.{◌≡◌, ◌∙◌, arith}
-use Rattle.images.specs.Blocks.{total, word_at}
+use Rattle.std.proofs.Common.{◌∙◌, arith}
 use Rattle.images.proofs.Words.{word_kept, total_same}
 use Rattle.images.proofs.block.set_word.Goals as goal
 

@@ -1,4 +1,4 @@
-use Rattle.std.proofs.Common.{◌≡◌, ◌+◌, ◌≤◌, map, replicate, vec_items, vec_len, vec_capacity}
+use Rattle.std.proofs.Common.{◌≡◌, ◌+◌, map, replicate, vec_items, vec_len, vec_capacity}
 use Rattle.cores.specs.CoreView.{core_state}
 use Rattle.rules.specs.Cores.{fresh_core}
 use Rattle.machine.proofs.starts.enlist_all.Given as goal

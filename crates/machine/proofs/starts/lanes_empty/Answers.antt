@@ -1,4 +1,4 @@
-use Rattle.std.proofs.Common.{◌≡◌, ℕ, Bool, ◌&&◌, eqb, length, sym, ap, ◌∙◌}
+use Rattle.std.proofs.Common.{ℕ, Bool, ◌&&◌, eqb, length, sym, ap, ◌∙◌}
 use Rattle.machine.proofs.LaneTests.{none_empty, more_empty}
 use Rattle.machine.proofs.starts.lanes_empty.Goals as goal
 use Rattle.machine.proofs.starts.lanes_empty.Goals.{then-empty, else-empty}

@@ -1,8 +1,8 @@
-use Rattle.std.proofs.Common.{◌≡◌, ℕ, min, List, [], length, get_or, take, string_bytes, sym, ap, ◌∙◌}
+use Rattle.std.proofs.Common.{ℕ, min, List, length, get_or, take, string_bytes, ap, ◌∙◌}
 use Rattle.lanes.specs.Rings.{row_depth, ring_lanes, ring_depth}
 use Rattle.lanes.specs.declared.ring.Ring.{Ring}
 use Rattle.memories.specs.declared.words.Words.{Words}
-use Rattle.memories.specs.Cells.{Cell, word}
+use Rattle.memories.specs.Cells.{word}
 use Rattle.memories.specs.Rows.{row_size, row_cell}
 use Rattle.lifetimes.specs.declared.fixed.Fixed.{Fixed}
 use Rattle.messages.specs.declared.request.Request.{Request}

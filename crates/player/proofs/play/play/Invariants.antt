@@ -1,4 +1,4 @@
-use Rattle.std.proofs.Common.{◌≡◌, ◌+◌, ◌≤◌, ◌++◌, length, take, string_bytes}
+use Rattle.std.proofs.Common.{◌≡◌, ◌+◌, ◌≤◌, ◌++◌, length, string_bytes}
 use Rattle.machine.specs.View.{view}
 use Rattle.script.specs.Lines.{script}
 use Rattle.player.specs.Played.{played}

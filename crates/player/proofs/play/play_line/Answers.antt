@@ -1,4 +1,4 @@
-use Rattle.std.proofs.Common.{◌≡◌, Option, sym, ap, ◌∙◌}
+use Rattle.std.proofs.Common.{Option, sym, ap, ◌∙◌}
 use Rattle.calls.specs.declared.call.Call.{Call}
 use Rattle.lifetimes.specs.declared.fixed.Fixed.{Fixed}
 use Rattle.machine.specs.View.{view}

@@ -1,4 +1,4 @@
-use Rattle.std.proofs.Common.{◌≡◌, ℕ, eqb, sym, ap, ◌∙◌}
+use Rattle.std.proofs.Common.{eqb, sym, ap, ◌∙◌}
 use Rattle.rules.proofs.Firsts.{place_here, place_later, place_none}
 use Rattle.rules.proofs.addressed.place_of.Goals as goal
 

@@ -1,4 +1,4 @@
-use Rattle.std.proofs.Common.{◌≡◌, ◌<◌, ◌≤◌, ◌⊎◌, length, get_or, sym, ◌∙◌, inl, inr, pow-suc, add-one, arith}
+use Rattle.std.proofs.Common.{sym, ◌∙◌, inl, inr, pow-suc, add-one, arith}
 use Rattle.script.proofs.Numbers.{digits_more, number_stop, number_all, word_small, word_large}
 use Rattle.script.proofs.bytes.numeral.Goals as goal
 use Rattle.script.proofs.bytes.numeral.Goals.{then-b-lt48-via-then-b-lt48, then-b-lt48-via-else-b-lt48+then-b-gt57}

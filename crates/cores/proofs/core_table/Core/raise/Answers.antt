@@ -1,6 +1,5 @@
-use Rattle.std.proofs.Common.{ℕ, ◌≤◌, max, length, get_or, sym, ap, arith}
+use Rattle.std.proofs.Common.{◌≤◌, max, length, get_or, arith}
 use Rattle.std.proofs.lemmas.List.{set_past}
-use Rattle.rules.specs.State.{CoreState}
 use Rattle.cores.proofs.core_table.Core.raise.Goals as goal
 
 -- a wave past the last changes nothing

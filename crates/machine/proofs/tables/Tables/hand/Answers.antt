@@ -1,5 +1,4 @@
-use Rattle.std.proofs.Common.{◌≡◌, length, sym, ap, ◌∙◌, arith}
-use Rattle.rules.specs.State.{CoreState}
+use Rattle.std.proofs.Common.{sym, ap, ◌∙◌, arith}
 use Rattle.rules.specs.Cores.{handed, took}
 use Rattle.rules.specs.Outs.{with_core}
 use Rattle.machine.specs.View.{tables_state}

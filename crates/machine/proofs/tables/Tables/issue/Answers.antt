@@ -1,4 +1,4 @@
-use Rattle.std.proofs.Common.{◌≡◌, length, sym, ap, ◌∙◌, arith}
+use Rattle.std.proofs.Common.{length, sym, ap, ◌∙◌, arith}
 use Rattle.rules.specs.State.{CoreState}
 use Rattle.rules.specs.Cores.{issued}
 use Rattle.rules.specs.Outs.{with_core}

@@ -1,4 +1,4 @@
-use Rattle.std.proofs.Common.{◌≡◌, sym}
+use Rattle.std.proofs.Common.{sym}
 use Rattle.script.proofs.Splits.{end_split}
 use Rattle.script.proofs.fields.Fields.end.Goals as goal
 
