@@ -28,7 +28,7 @@ struct Work {
 }
 
 #[link(name = "bench_ffi", kind = "static")]
-#[link(name = "rattle_c", kind = "static")]
+#[link(name = "libc_c", kind = "static")]
 unsafe extern "C" {
     fn bench_ffi_run(
         cores: u32,
@@ -333,7 +333,7 @@ struct Options {
 
 fn options() -> Result<Options, String> {
     let mut o = Options {
-        tcrun: PathBuf::from("target/bin/tcrun"),
+        tcrun: PathBuf::from("crates/tcrun/out/tcrun"),
         model: PathBuf::from("target/bench/release/tcmodel"),
         letters: Letters::ALL,
         runs: 40,

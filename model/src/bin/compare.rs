@@ -13,7 +13,7 @@ use tcmodel::{Letters, play};
 
 const USAGE: &str = "usage: compare [--tcrun PATH] [--seeds N] [--seed S] [--letters LETTERS]
                [--profile NAME] [--jobs N] [--counts] [--print]
-  --tcrun PATH       the program to compare (target/bin/tcrun)
+  --tcrun PATH       the program to compare (crates/tcrun/out/tcrun)
   --seeds N          how many scripts (1200)
   --seed S           the first seed (1)
   --letters LETTERS  the letters that make calls; others are no calls (NLSAXVDTEKF)
@@ -42,7 +42,7 @@ fn profile_named(name: &str) -> Option<Profile> {
 
 fn options() -> Result<Options, String> {
     let mut o = Options {
-        tcrun: PathBuf::from("target/bin/tcrun"),
+        tcrun: PathBuf::from("crates/tcrun/out/tcrun"),
         seeds: 1200,
         seed: 1,
         letters: Letters::ALL,
