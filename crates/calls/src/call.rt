@@ -1,4 +1,10 @@
 //! A call of the machine as a value.
+ghost use Rattle.std.specs.Prelude.{◌≡◌};
+ghost use Rattle.std.specs.Option.{ok_or};
+ghost use Rattle.calls.specs.Letters.{protocol_of};
+ghost use Rattle.calls.specs.declared.refusal.Refusal.TheVariants.{NotACall};
+
+use crate::refusal::Refusal;
 
 /// Which operation waits for a lease to end.
 #[derive(Clone, Copy, PartialEq, Eq, Debug)]
@@ -7,6 +13,21 @@ pub enum Protocol {
     Strong,
     /// TC-Weak: a store or atomic goes through, and a fence waits. Letter W in a script.
     Weak,
+}
+
+/// The protocol of a letter; another letter is not a call's.
+impl TryFrom<u8> for Protocol {
+    type Error = Refusal;
+
+    ghost try_from_gives = { λ letter result. result ≡ ok_or (protocol_of letter) NotACall };
+
+    fn try_from(letter: u8) -> Result<Protocol, Refusal> {
+        match letter {
+            b'S' => Ok(Protocol::Strong),
+            b'W' => Ok(Protocol::Weak),
+            _ => Err(Refusal::NotACall),
+        }
+    }
 }
 
 /// A call, with its arguments.

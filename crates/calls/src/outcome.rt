@@ -1,14 +1,9 @@
 //! What a call comes to.
-use crate::refusal::Refusal;
+ghost use Rattle.std.specs.Prelude.{Some};
+ghost use Rattle.calls.specs.Answers.{handed, answer_of};
 
-/// What a load comes to at its core.
-#[derive(Clone, Copy, PartialEq, Eq, Debug)]
-pub enum Loaded {
-    /// the core has a running copy: its value
-    Hit(u32),
-    /// a request was put on the core's lane and noted
-    Sent,
-}
+use crate::refusal::Refusal;
+use std::fmt;
 
 /// What a delivery hands to the core: wave and address are those of its oldest pending request.
 #[derive(Clone, Copy, PartialEq, Eq, Debug)]
@@ -25,6 +20,7 @@ pub enum Delivered {
 
 /// What a call comes to. In a script's output: `started`, `load`, `sent`, `served`, what was
 /// delivered (`load`, `store`, `atomic` or `fault`), `tick`, `refused` with the cause's number.
+/// One enum and no `Result`: for a call as a value a refusal is one outcome among seven.
 #[derive(Clone, Copy, PartialEq, Eq, Debug)]
 pub enum Outcome {
     /// Start: the machine runs
@@ -41,4 +37,33 @@ pub enum Outcome {
     Ticked(u32),
     /// any call: nothing changed, save that cause 7 marks the lane as waiting
     Refused(Refusal),
+}
+
+impl fmt::Display for Delivered {
+    ghost output = { λ delivered. Some (handed delivered) };
+
+    fn fmt<W: fmt::Write>(&self, f: &mut fmt::Formatter<W>) -> fmt::Result {
+        match self {
+            Delivered::Load { address, value, .. } => write!(f, "load {address} {value}"),
+            Delivered::Store { address, .. } => write!(f, "store {address}"),
+            Delivered::Atomic { address, value, .. } => write!(f, "atomic {address} {value}"),
+            Delivered::Fault { address, block, .. } => write!(f, "fault {address} {block}"),
+        }
+    }
+}
+
+impl fmt::Display for Outcome {
+    ghost output = { λ outcome. Some (answer_of outcome) };
+
+    fn fmt<W: fmt::Write>(&self, f: &mut fmt::Formatter<W>) -> fmt::Result {
+        match self {
+            Outcome::Started => f.write_str("started"),
+            Outcome::Hit { address, value } => write!(f, "load {address} {value}"),
+            Outcome::Sent => f.write_str("sent"),
+            Outcome::Served => f.write_str("served"),
+            Outcome::Delivered(delivered) => write!(f, "{delivered}"),
+            Outcome::Ticked(clock) => write!(f, "tick {clock}"),
+            Outcome::Refused(refusal) => write!(f, "refused {} {refusal}", u32::from(*refusal)),
+        }
+    }
 }
