@@ -8,30 +8,26 @@ use Rattle.lanes.specs.declared.net.LaneNet as net
 abbrev pub counted : {A : Type 0} → List A → List A
 counted xs = cond (nat_lt (length xs) (2 ^ 64)) xs []
 
--- the counts of both lists, added
-abbrev pub count_sum : ℕ → ℕ → ℕ
-count_sum far near = cond (nat_lt (far + near) (2 ^ 64)) (far + near) 0
-
--- the depths of both nets, added, at most 64
-abbrev pub depth_sum : ℕ → ℕ → ℕ
-depth_sum far near = min (far + near) 64
-
 module _ {F N A : Type 0} (f : net.Ghosts F A) (n : net.Ghosts N A) where
   -- the far list, then the near list
-  abbrev pub both : F → N → ℕ → List A
-  both far near k = f.lanes far k ++ n.lanes near k
-
-  abbrev pub shown : F → N → ℕ → List A
-  shown far near k = counted (both far near k)
+  abbrev pub both : Hop F N → ℕ → List A
+  both s k = f.lanes s.far k ++ n.lanes s.near k
 
   abbrev pub hop_lanes : Hop F N → ℕ → List A
-  hop_lanes s = shown s.far s.near
+  hop_lanes s k = counted (both s k)
 
+  -- the depths of both nets, added, at most 64
   abbrev pub hop_depth : Hop F N → ℕ
-  hop_depth s = depth_sum (f.depth s.far) (n.depth s.near)
+  hop_depth s = min (f.depth s.far + n.depth s.near) 64
+
+  -- both nets keep their depths
+  abbrev pub KeepsDepths : Hop F N → Hop F N → Type 0
+  KeepsDepths s t = (f.depth t.far ≡ f.depth s.far) × (n.depth t.near ≡ n.depth s.near)
 
   pub hop_shallow : (s : Hop F N) → hop_depth s ≤ 64
   hop_shallow s = omega arith
 
-  pub hop_bare : (s : Hop F N) (k : ℕ) → 16 ≤ k → hop_lanes s k ≡ []
-  hop_bare s k h = rw (f.bare s.far k h, n.bare s.near k h)
+  pub hop_bare :
+      ((s : F) (k : ℕ) → 16 ≤ k → f.lanes s k ≡ []) → ((s : N) (k : ℕ) → 16 ≤ k → n.lanes s k ≡ []) →
+      (s : Hop F N) (k : ℕ) → 16 ≤ k → hop_lanes s k ≡ []
+  hop_bare far near s k h = rw (far s.far k h, near s.near k h)

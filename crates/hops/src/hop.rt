@@ -1,8 +1,7 @@
 //! Two nets, one behind the other.
 ghost use Rattle.std.specs.Prelude.{◌≡◌, ℕ, ◌+◌, ◌<◌, ◌≤◌, [], length};
-ghost use Rattle.lanes.specs.Lanes.{oldest, take_lanes, with_lane};
-ghost use Rattle.lanes.specs.Rings.{add_lane};
-ghost use Rattle.hops.specs.Hops.{both, count_sum, depth_sum, hop_bare, hop_depth, hop_lanes, hop_shallow, shown};
+ghost use Rattle.lanes.specs.Lanes.{with_lane};
+ghost use Rattle.hops.specs.Hops.{KeepsDepths, both, hop_bare, hop_depth, hop_lanes, hop_shallow};
 
 use lanes::net::{LaneError, LaneNet};
 
@@ -22,123 +21,87 @@ impl<F, N> Hop<F, N> {
     {
         Hop { far, near }
     }
+
+    /// Empties a lane whose messages are too many to count.
+    fn settle<M: Drop>(&mut self, lane: u32)
+    where
+        F: LaneNet<M>,
+        N: LaneNet<M>,
+        ensures lanes { (j : ℕ) → hop_lanes F.LaneNet N.LaneNet self.new j ≡ hop_lanes F.LaneNet N.LaneNet self.old j }
+        ensures whole { hop_lanes F.LaneNet N.LaneNet self.new lane ≡ both F.LaneNet N.LaneNet self.new lane }
+        ensures same { KeepsDepths F.LaneNet N.LaneNet self.old self.new }
+    {
+        if self.count(lane) == 0 {
+            clear(&mut self.far, lane);
+            clear(&mut self.near, lane);
+        }
+    }
+
+    /// Moves messages on until the near net takes one, or is empty. (A `while`: only the nets' own counts
+    /// say when it ends.)
+    fn make_room<M: Drop>(&mut self, lane: u32)
+    where
+        F: LaneNet<M>,
+        N: LaneNet<M>,
+        requires { length (both F.LaneNet N.LaneNet self.old lane) < F.LaneNet.depth self.old.far + N.LaneNet.depth self.old.near }
+        ensures lanes { (j : ℕ) → both F.LaneNet N.LaneNet self.new j ≡ both F.LaneNet N.LaneNet self.old j }
+        ensures room { N.LaneNet.depth self.new.near ≤ length (N.LaneNet.lanes self.new.near lane) → length (N.LaneNet.lanes self.new.near lane) ≡ 0 }
+        ensures same { KeepsDepths F.LaneNet N.LaneNet self.old self.new }
+    {
+        while self.near.count(lane) >= self.near.depth().max(1) {
+            if let Some(moved) = self.near.take(lane) {
+                let _ = self.far.put(lane, moved);
+            }
+        }
+    }
 }
 
 impl<M: Drop, F: LaneNet<M>, N: LaneNet<M>> LaneNet<M> for Hop<F, N> {
-    ghost lanes = { λ s. hop_lanes F.LaneNet N.LaneNet s };
+    ghost lanes = { hop_lanes F.LaneNet N.LaneNet };
 
-    ghost depth = { λ s. hop_depth F.LaneNet N.LaneNet s };
+    ghost depth = { hop_depth F.LaneNet N.LaneNet };
 
-    ghost shallow = { λ s. hop_shallow F.LaneNet N.LaneNet s };
+    ghost shallow = { hop_shallow F.LaneNet.own N.LaneNet.own };
 
-    ghost bare = { λ s. hop_bare F.LaneNet N.LaneNet s };
+    ghost bare = { hop_bare F.LaneNet.own N.LaneNet.own F.bare N.bare };
 
     fn put(&mut self, lane: u32, message: M) -> Result<(), LaneError> {
-        if lane >= 16 {
-            return Err(LaneError::UnknownLane);
+        self.room(lane)?;
+        self.settle::<M>(lane);
+        self.make_room::<M>(lane);
+        if self.near.count(lane) < self.near.depth() {
+            self.near.put(lane, message)
+        } else {
+            self.far.put(lane, message)
         }
-        if self.count(lane) >= self.depth() {
-            return Err(LaneError::LaneFull);
-        }
-        add(&mut self.far, &mut self.near, lane, message);
-        Ok(())
     }
 
     fn oldest(&self, lane: u32) -> Option<M> {
         if self.count(lane) == 0 {
             return None;
         }
-        first(&self.far, &self.near, lane)
+        self.far.oldest(lane).or_else(|| self.near.oldest(lane))
     }
 
+    // A sum past 64 bits counts as none.
     fn count(&self, lane: u32) -> usize {
-        held(&self.far, &self.near, lane)
+        let (far, near) = (self.far.count(lane), self.near.count(lane));
+        far.checked_add(near).unwrap_or(0)
     }
 
     fn depth(&self) -> usize {
-        depth_sum(self.far.depth(), self.near.depth())
+        (self.far.depth() + self.near.depth()).min(64)
     }
 
     fn take(&mut self, lane: u32) -> Option<M> {
-        let taken = self.oldest(lane);
-        if self.count(lane) > 0 {
-            advance(&mut self.far, &mut self.near, lane);
+        if self.count(lane) == 0 {
+            return None;
         }
-        taken
-    }
-}
-
-fn depth_sum(far: usize, near: usize) -> usize
-    requires { (far ≤ 64) × (near ≤ 64) }
-    ensures { result ≡ depth_sum far near }
-{
-    (far + near).min(64)
-}
-
-/// Two counts, added; a sum past 64 bits counts as none.
-fn count_sum(far: usize, near: usize) -> usize
-    ensures { result ≡ count_sum far near }
-{
-    match far.checked_add(near) {
-        Some(n) => n,
-        None => 0,
-    }
-}
-
-/// How many messages lie in a lane of both.
-fn held<M: Drop, F: LaneNet<M>, N: LaneNet<M>>(far: &F, near: &N, lane: u32) -> usize
-    ensures { result ≡ length (shown F.LaneNet N.LaneNet far.now near.now lane) }
-{
-    count_sum(far.count(lane), near.count(lane))
-}
-
-/// The oldest message of a lane that holds one.
-fn first<M: Drop, F: LaneNet<M>, N: LaneNet<M>>(far: &F, near: &N, lane: u32) -> Option<M>
-    requires { 0 < length (shown F.LaneNet N.LaneNet far.now near.now lane) }
-    ensures { result ≡ oldest (shown F.LaneNet N.LaneNet far.now near.now lane) }
-{
-    if far.count(lane) > 0 {
-        return far.oldest(lane);
-    }
-    near.oldest(lane)
-}
-
-/// Removes the oldest message of a lane that holds one.
-fn advance<M: Drop, F: LaneNet<M>, N: LaneNet<M>>(far: &mut F, near: &mut N, lane: u32)
-    requires { 0 < length (shown F.LaneNet N.LaneNet far.old near.old lane) }
-    ensures lanes { (j : ℕ) → shown F.LaneNet N.LaneNet far.new near.new j ≡ take_lanes (shown F.LaneNet N.LaneNet far.old near.old) lane j }
-    ensures far { F.LaneNet.depth far.new ≡ F.LaneNet.depth far.old }
-    ensures near { N.LaneNet.depth near.new ≡ N.LaneNet.depth near.old }
-{
-    if far.count(lane) > 0 {
-        let _ = far.take(lane);
-    } else {
-        let _ = near.take(lane);
-    }
-}
-
-/// Adds a message to a lane that is not full.
-fn add<M: Drop, F: LaneNet<M>, N: LaneNet<M>>(far: &mut F, near: &mut N, lane: u32, message: M)
-    requires { (lane < 16) × (length (shown F.LaneNet N.LaneNet far.old near.old lane) < depth_sum (F.LaneNet.depth far.old) (N.LaneNet.depth near.old)) }
-    ensures lanes { (j : ℕ) → shown F.LaneNet N.LaneNet far.new near.new j ≡ add_lane (shown F.LaneNet N.LaneNet far.old near.old) lane message j }
-    ensures far { F.LaneNet.depth far.new ≡ F.LaneNet.depth far.old }
-    ensures near { N.LaneNet.depth near.new ≡ N.LaneNet.depth near.old }
-{
-    settle(far, near, lane);
-    make_room(far, near, lane);
-    push(far, near, lane, message);
-}
-
-/// Empties a lane whose messages are too many to count.
-fn settle<M: Drop, F: LaneNet<M>, N: LaneNet<M>>(far: &mut F, near: &mut N, lane: u32)
-    ensures lanes { (j : ℕ) → shown F.LaneNet N.LaneNet far.new near.new j ≡ shown F.LaneNet N.LaneNet far.old near.old j }
-    ensures whole { shown F.LaneNet N.LaneNet far.new near.new lane ≡ both F.LaneNet N.LaneNet far.new near.new lane }
-    ensures far { F.LaneNet.depth far.new ≡ F.LaneNet.depth far.old }
-    ensures near { N.LaneNet.depth near.new ≡ N.LaneNet.depth near.old }
-{
-    if held(far, near, lane) == 0 {
-        clear(far, lane);
-        clear(near, lane);
+        // not by `or_else`: of what its closure does to the near net, a proof keeps nothing
+        match self.far.take(lane) {
+            None => self.near.take(lane),
+            taken => taken,
+        }
     }
 }
 
@@ -147,47 +110,5 @@ fn clear<M: Drop, N: LaneNet<M>>(net: &mut N, lane: u32)
     ensures lanes { (j : ℕ) → N.LaneNet.lanes net.new j ≡ with_lane (N.LaneNet.lanes net.old) lane [] j }
     ensures same { N.LaneNet.depth net.new ≡ N.LaneNet.depth net.old }
 {
-    while net.count(lane) > 0 {
-        let _ = net.take(lane);
-    }
-}
-
-/// Moves messages on until the near net takes one, or is empty.
-fn make_room<M: Drop, F: LaneNet<M>, N: LaneNet<M>>(far: &mut F, near: &mut N, lane: u32)
-    requires { (lane < 16) × (length (both F.LaneNet N.LaneNet far.old near.old lane) < F.LaneNet.depth far.old + N.LaneNet.depth near.old) }
-    ensures lanes { (j : ℕ) → both F.LaneNet N.LaneNet far.new near.new j ≡ both F.LaneNet N.LaneNet far.old near.old j }
-    ensures room { N.LaneNet.depth near.new ≤ length (N.LaneNet.lanes near.new lane) → length (N.LaneNet.lanes near.new lane) ≡ 0 }
-    ensures far { F.LaneNet.depth far.new ≡ F.LaneNet.depth far.old }
-    ensures near { N.LaneNet.depth near.new ≡ N.LaneNet.depth near.old }
-{
-    while near.count(lane) >= near.depth().max(1) {
-        move_on(far, near, lane);
-    }
-}
-
-/// Moves the near net's oldest message to the end of the far net.
-fn move_on<M: Drop, F: LaneNet<M>, N: LaneNet<M>>(far: &mut F, near: &mut N, lane: u32)
-    requires { (lane < 16) × ((length (F.LaneNet.lanes far.old lane) < F.LaneNet.depth far.old) × (0 < length (N.LaneNet.lanes near.old lane))) }
-    ensures lanes { (j : ℕ) → both F.LaneNet N.LaneNet far.new near.new j ≡ both F.LaneNet N.LaneNet far.old near.old j }
-    ensures fewer { length (N.LaneNet.lanes near.new lane) + 1 ≡ length (N.LaneNet.lanes near.old lane) }
-    ensures far { F.LaneNet.depth far.new ≡ F.LaneNet.depth far.old }
-    ensures near { N.LaneNet.depth near.new ≡ N.LaneNet.depth near.old }
-{
-    if let Some(message) = near.take(lane) {
-        let _ = far.put(lane, message);
-    }
-}
-
-/// Puts a message behind the last, into the near net where that takes it.
-fn push<M: Drop, F: LaneNet<M>, N: LaneNet<M>>(far: &mut F, near: &mut N, lane: u32, message: M)
-    requires { (lane < 16) × ((length (both F.LaneNet N.LaneNet far.old near.old lane) < depth_sum (F.LaneNet.depth far.old) (N.LaneNet.depth near.old)) × ((N.LaneNet.depth near.old ≤ length (N.LaneNet.lanes near.old lane) → length (N.LaneNet.lanes near.old lane) ≡ 0))) }
-    ensures lanes { (j : ℕ) → both F.LaneNet N.LaneNet far.new near.new j ≡ add_lane (both F.LaneNet N.LaneNet far.old near.old) lane message j }
-    ensures far { F.LaneNet.depth far.new ≡ F.LaneNet.depth far.old }
-    ensures near { N.LaneNet.depth near.new ≡ N.LaneNet.depth near.old }
-{
-    if near.count(lane) < near.depth() {
-        let _ = near.put(lane, message);
-    } else {
-        let _ = far.put(lane, message);
-    }
+    while net.take(lane).is_some() {}
 }

@@ -25,6 +25,16 @@ mod tests {
     }
 
     #[test]
+    fn room_is_told_before_a_put(rt: HostRuntime) {
+        let mut row = [0u32; 16];
+        let mut ring = Ring::new(&mut row);
+        assert_eq!(rt; ring.room(15), Ok(()));
+        assert_eq!(rt; ring.put(15, 7), Ok(()));
+        assert_eq!(rt; ring.room(15), Err(LaneError::LaneFull));
+        assert_eq!(rt; ring.room(16), Err(LaneError::UnknownLane));
+    }
+
+    #[test]
     fn a_lane_goes_round(rt: HostRuntime) {
         let mut row = [0u32; 32];
         let mut ring = Ring::new(&mut row);

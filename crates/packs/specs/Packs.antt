@@ -1,8 +1,7 @@
 -- How a lane's messages lie as words.
-use Rattle.std.specs.Prelude.{◌≡◌, ℕ, ◌≤◌, cond, List, [], ◌∷◌, take, Some, None, Option, nat_le, slice_index_or}
+use Rattle.std.specs.Prelude.{◌≡◌, ℕ, ◌≤◌, cond, List, [], ◌∷◌, Some, None, Option, nat_le, slice_index_or}
 use Rattle.std.proofs.Common.{lit≤}
 use Rattle.messages.specs.declared.form.FiveWords as form
-use Rattle.packs.specs.declared.packed.Lane.{Lane}
 use Rattle.packs.specs.declared.packed.Packed.{Packed}
 use Rattle.std.proofs.lemmas.Bool.{le-leb}
 
@@ -15,21 +14,13 @@ abbrev pub messages_of : {A : Type 0} → (List ℕ → Option A) → List (List
 messages_of read [] = []
 messages_of read (ws ∷ groups) = before (read ws) (messages_of read groups)
 
-abbrev pub lane_list : {A : Type 0} → (List ℕ → Option A) → Lane → List A
-lane_list read l = messages_of read (take l.count l.groups)
-
 pub eight_shallow : 8 ≤ 64
 eight_shallow = lit≤ tt
 
-abbrev pub no_lane : Lane
-no_lane = record { groups = []; count = 0 }
-
-abbrev pub lane_at : List Lane → ℕ → Lane
-lane_at lanes k = slice_index_or lanes k no_lane
-
 module _ {A : Type 0} (f : form.Ghosts A) where
+  -- a lane is its groups
   abbrev pub pack_lanes : Packed A → ℕ → List A
-  pack_lanes s k = cond (nat_le 16 k) [] (lane_list f.message (lane_at s.lanes k))
+  pack_lanes s k = cond (nat_le 16 k) [] (messages_of f.message (slice_index_or s.lanes k []))
 
   pub pack_bare : (s : Packed A) (k : ℕ) → 16 ≤ k → pack_lanes s k ≡ []
   pack_bare s k h = rw (le-leb 16 k h)

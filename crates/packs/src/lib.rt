@@ -1,6 +1,7 @@
 //! A lane net that stores messages as words.
 #![tactic(auto)]
 
+mod lane;
 pub mod packed;
 
 #[cfg(test)]
