@@ -1,2 +1,3 @@
+pub mod Chunks
 pub mod Renewed
 pub mod Words

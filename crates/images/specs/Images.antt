@@ -1,6 +1,5 @@
 -- What an image means as a memory.
-use Rattle.std.specs.Prelude.{ℕ, ◌≤◌, Bool}
-use Rattle.std.proofs.Common.{arith}
+use Rattle.std.specs.Prelude.{◌≡◌, ℕ, ◌/◌, ◌<◌, Bool, true, List}
 use Rattle.memories.specs.Cells.{Cell}
 use Rattle.images.specs.Blocks.{block_at, cell_of, size_of, sound}
 use Rattle.images.specs.declared.image.Image.{Image}
@@ -11,9 +10,12 @@ image_size s = size_of s.bytes.now
 abbrev pub image_cell : Image → ℕ → Cell
 image_cell s a = cell_of s.bytes.now a
 
-pub image_small : (s : Image) → image_size s ≤ 4096
-image_small s = omega arith
-
 -- whether block k can be read
 abbrev pub readable_block : Image → ℕ → Bool
 readable_block s k = sound k (block_at s.bytes.now k)
+
+-- a block that can be read, in which an address below the size lies
+pub record IsBlockOf (s : Image) (a : ℕ) (block : List ℕ) : Type 0 where
+  pub known : a < image_size s
+  pub readable : readable_block s (a / 126) ≡ true
+  pub bytes : block ≡ block_at s.bytes.now (a / 126)

@@ -1,10 +1,11 @@
 //! The caller's bytes as a memory.
-ghost use Rattle.std.specs.Prelude.{◌≡◌, ℕ, ◌+◌, ◌*◌, ◌/◌, ◌<◌, ◌≤◌, true, length};
+ghost use Rattle.std.specs.Prelude.{◌≡◌, ℕ, ◌/◌, ◌<◌, true, IfOk, IfErr};
+ghost use Rattle.std.proofs.Common.{rules};
 ghost use Rattle.memories.specs.Cells.{write_answer, write_cells};
 ghost use Rattle.images.specs.Blocks.{BytesKept, WordAlone, put_cells};
-ghost use Rattle.images.specs.Images.{image_cell, image_size, image_small, readable_block};
+ghost use Rattle.images.specs.Images.{image_cell, image_size, readable_block, IsBlockOf};
 
-use crate::block::{is_sound, set_word, word_of};
+use crate::block::{Block, is_sound, set_word, word_of};
 use memories::memory::{Fault, Memory};
 
 /// Blocks of 512 bytes: 126 words, lowest byte first, the block's number and a check. A rest of
@@ -22,13 +23,20 @@ impl<'a> Image<'a> {
         Image { bytes: image }
     }
 
-    /// Whether block k can be read.
-    fn readable(&self, k: u32) -> bool
-        requires { 512 * k + 512 ≤ length self.now.bytes.now }
-        ensures { result ≡ readable_block self.now k }
+    /// The block in which an address lies, if it can be read.
+    fn block(&self, address: u32) -> Result<&Block, Fault>
+        ensures found { IfOk result (λ block. IsBlockOf self.now address block.now) }
+        ensures answer { IfErr result (λ fault. write_answer (image_size self.now) (image_cell self.now) address ≡ Err fault) }
     {
-        let a = 512 * k as usize;
-        is_sound(&self.bytes[a..a + 512], k)
+        self.check(address)?;
+        let number = address / 126;
+        let (blocks, _) = self.bytes.as_chunks();
+        let block = &blocks[number as usize];
+        if is_sound(block, number) {
+            Ok(block)
+        } else {
+            Err(Fault::Unreadable { block: number })
+        }
     }
 
     /// Sets the word at an address and renews its block's check.
@@ -38,10 +46,14 @@ impl<'a> Image<'a> {
         ensures same { image_size self.new ≡ image_size self.old }
         ensures bytes { WordAlone address self.old.bytes.now self.new.bytes.now }
     {
-        let a = 512 * (address as usize / 126);
-        let i = address as usize % 126;
-        let block = &mut self.bytes[a..a + 512];
-        set_word(block, i, word);
+        // A copy is set and put back: what bytes lent as a block end as gets no proof.
+        let address = address as usize;
+        let bytes = &mut *self.bytes;
+        let (blocks, _) = bytes.as_chunks();
+        let mut block = blocks[address / 126];
+        set_word(&mut block, address % 126, word);
+        let start = 512 * (address / 126);
+        bytes[start..start + 512].copy_from_slice(&block);
     }
 }
 
@@ -50,23 +62,15 @@ impl<'a> Memory for Image<'a> {
 
     ghost cell = { λ s. image_cell s };
 
-    ghost small = { λ s. image_small s };
+    ghost small = { Prim.search rules };
 
     fn size(&self) -> u32 {
         (self.bytes.len() / 512 * 126).min(4096) as u32
     }
 
     fn read(&self, address: u32) -> Result<u32, Fault> {
-        if address >= self.size() {
-            return Err(Fault::UnknownAddress);
-        }
-        let k = address / 126;
-        if !self.readable(k) {
-            return Err(Fault::Unreadable { block: k });
-        }
-        let a = 512 * k as usize;
-        let i = address as usize % 126;
-        Ok(word_of(&self.bytes[a..a + 512], i))
+        let block = self.block(address)?;
+        Ok(word_of(block, address as usize % 126))
     }
 
     /// Beyond what each memory promises: it changes the bytes of the word and of the check of its
@@ -77,13 +81,7 @@ impl<'a> Memory for Image<'a> {
         ensures same { image_size self.new ≡ image_size self.old }
         ensures bytes { BytesKept address self.old.bytes.now self.new.bytes.now result }
     {
-        if address >= self.size() {
-            return Err(Fault::UnknownAddress);
-        }
-        let k = address / 126;
-        if !self.readable(k) {
-            return Err(Fault::Unreadable { block: k });
-        }
+        self.block(address)?;
         self.set(address, word);
         Ok(())
     }

@@ -17,21 +17,18 @@ mod tests {
         let mut bytes = [0; 1024];
         bytes[508..512].fill(255);
         bytes[1016] = 1;
-        bytes[1020] = 254;
-        bytes[1021..1024].fill(255);
+        bytes[1020..1024].copy_from_slice(&[254, 255, 255, 255]);
         bytes
     }
 
     // The same with 0x01020304 at address 127.
     fn written() -> [u8; 1024] {
         let mut bytes = zeros();
-        for k in 0..4u8 {
-            bytes[516 + k as usize] = 4 - k;
-        }
         bytes[1020] = 250;
         bytes[1021] = 252;
         bytes[1022] = 253;
         bytes[1023] = 254;
+        bytes[516..520].copy_from_slice(&[4, 3, 2, 1]);
         bytes
     }
 
@@ -62,7 +59,7 @@ mod tests {
         assert_eq!(rt; image.read(127), Ok(0x01020304));
         assert_eq!(rt; image.read(126), Ok(0));
         assert_eq!(rt; image.read(1), Ok(0));
-        assert!(rt; bytes == written());
+        assert_eq!(rt; bytes, written());
     }
 
     #[test]

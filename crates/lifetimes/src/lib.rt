@@ -21,9 +21,13 @@ mod tests {
     #[test]
     fn events_change_nothing(rt: HostRuntime) {
         let mut policy = Fixed::new(10);
-        policy.tell(Event::LoadMetOver);
-        policy.tell(Event::WriteMetRunning);
-        policy.tell(Event::LeftRunning);
+        for event in [
+            Event::LoadMetOver,
+            Event::WriteMetRunning,
+            Event::LeftRunning,
+        ] {
+            policy.tell(event);
+        }
         assert_eq!(rt; policy.lifetime(), 10);
     }
 
@@ -38,17 +42,16 @@ mod tests {
     #[test]
     fn a_learner_stays_between_0_and_its_longest(rt: HostRuntime) {
         let mut policy = Learner::new(3, 10);
-        policy.tell(Event::WriteMetRunning);
-        assert_eq!(rt; policy.lifetime(), 0);
-        policy.tell(Event::LeftRunning);
-        assert_eq!(rt; policy.lifetime(), 0);
-        policy.tell(Event::LoadMetOver);
-        assert_eq!(rt; policy.lifetime(), 4);
-        policy.tell(Event::LoadMetOver);
-        assert_eq!(rt; policy.lifetime(), 8);
-        policy.tell(Event::LoadMetOver);
-        assert_eq!(rt; policy.lifetime(), 10);
-        policy.tell(Event::LeftRunning);
-        assert_eq!(rt; policy.lifetime(), 2);
+        for (event, lifetime) in [
+            (Event::WriteMetRunning, 0),
+            (Event::LeftRunning, 0),
+            (Event::LoadMetOver, 4),
+            (Event::LoadMetOver, 8),
+            (Event::LoadMetOver, 10),
+            (Event::LeftRunning, 2),
+        ] {
+            policy.tell(event);
+            assert_eq!(rt; policy.lifetime(), lifetime);
+        }
     }
 }

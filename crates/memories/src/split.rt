@@ -35,26 +35,20 @@ impl<A: Memory, B: Memory> Memory for Split<A, B> {
     }
 
     fn read(&self, address: u32) -> Result<u32, Fault> {
-        if address >= self.size() {
-            return Err(Fault::UnknownAddress);
-        }
-        let word = if address % 2 == 0 {
-            self.first.read(address / 2)?
+        self.check(address)?;
+        if address % 2 == 0 {
+            self.first.read(address / 2)
         } else {
-            self.second.read(address / 2)?
-        };
-        Ok(word)
+            self.second.read(address / 2)
+        }
     }
 
     fn write(&mut self, address: u32, word: u32) -> Result<(), Fault> {
-        if address >= self.size() {
-            return Err(Fault::UnknownAddress);
-        }
+        self.check(address)?;
         if address % 2 == 0 {
-            self.first.write(address / 2, word)?;
+            self.first.write(address / 2, word)
         } else {
-            self.second.write(address / 2, word)?;
+            self.second.write(address / 2, word)
         }
-        Ok(())
     }
 }

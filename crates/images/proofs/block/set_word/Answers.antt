@@ -1,15 +1,11 @@
-use Rattle.std.proofs.Common.{◌∙◌, arith}
+use Rattle.std.proofs.Common.{arith}
 use Rattle.images.proofs.Words.{word_kept, total_same}
 use Rattle.images.proofs.block.set_word.Goals as goal
 
-pub returns : goal.returns
-returns c =
+pub returns-clause-checks : goal.returns-clause-checks
+returns-clause-checks c =
     let first = c.put_word.new.block in
     let last = c.put_word-2.new.block in
     let kept = c.put_word-2.ensures.keeps in
     let sum = total_same first last 127 (λ j l. word_kept first last j (λ p u v. kept p (λ x y. omega arith))) in
-    record {
-      sets = word_kept first last c.args.i (λ p u v. kept p (λ x y. omega arith)) ∙ c.put_word.ensures.sets;
-      keeps = λ p u v. kept p (λ x y. v (omega arith) (omega arith)) ∙ c.put_word.ensures.keeps p u;
-      checks = omega arith;
-    }
+    omega arith

@@ -1,8 +1,8 @@
-use Rattle.std.proofs.Common.{◌≡◌, ℕ, zero, suc, ◌+◌, ◌*◌, ◌<◌, ◌≤◌, true, eqb, List, sym, inl, inr, arith}
-use Rattle.std.proofs.lemmas.Bool.{and_parts, eqb-true, cases_eq, cases_Bool}
-use Rattle.images.specs.Blocks.{total, sound, word_at, check_of}
+use Rattle.std.proofs.Common.{◌≡◌, ℕ, zero, suc, ◌+◌, ◌*◌, ◌<◌, ◌≤◌, true, List, sym, inl, inr, arith}
+use Rattle.std.proofs.lemmas.Bool.{cases_eq, cases_Bool}
+use Rattle.images.specs.Blocks.{total, sound, word_at}
 use Rattle.images.specs.Damage.{Bytes, Damaged}
-use Rattle.images.proofs.Words.{total_same}
+use Rattle.images.proofs.Words.{check_is, number_of, total_same}
 use Rattle.images.proofs.cases.damage_told.Goals as goal
 
 -- the sums differ as the words do
@@ -34,29 +34,19 @@ word_fits bs i b = omega (arith, b (4 * i), b (4 * i + 1), b (4 * i + 2), b (4 *
 -- two sound blocks with one number do not differ in one word
 never : (k i : ℕ) (xs ys : List ℕ) → Bytes xs → Bytes ys → i < 128 → Damaged i xs ys
     → sound k xs ≡ true → sound k ys ≡ true → ⊥
-never k i xs ys bx by l d sx sy =
-    let px = and_parts (eqb (word_at xs 126) k) (eqb (word_at xs 127) (check_of xs)) sx in
-    let py = and_parts (eqb (word_at ys 126) k) (eqb (word_at ys 127) (check_of ys)) sy in
-    let nx = eqb-true (word_at xs 126) k px.0 in
-    let ny = eqb-true (word_at ys 126) k py.0 in
-    let cx = eqb-true (word_at xs 127) (check_of xs) px.1 in
-    let cy = eqb-true (word_at ys 127) (check_of ys) py.1 in
-    elim (cases_eq i 127) [ inl e ↦ last e cx cy | inr ne ↦ before ne nx ny cx cy ]
+never k i xs ys bx by l d sx sy = elim (cases_eq i 127) [ inl e ↦ last e | inr ne ↦ before ne ]
   where
-    last : i ≡ 127 → word_at xs 127 ≡ check_of xs → word_at ys 127 ≡ check_of ys → ⊥
-    last e cx cy =
+    last : i ≡ 127 → ⊥
+    last e =
         let s = total_same xs ys 127 (λ j v. d.else j (omega arith) (λ q. omega arith)) in
-        let same : word_at ys 127 ≡ word_at xs 127 = omega arith in
+        let same : word_at ys 127 ≡ word_at xs 127 = omega (arith, check_is k xs sx, check_is k ys sy) in
         d.differs (rw e same)
 
-    before : (i ≡ 127 → ⊥) → word_at xs 126 ≡ k → word_at ys 126 ≡ k
-        → word_at xs 127 ≡ check_of xs → word_at ys 127 ≡ check_of ys → ⊥
-    before ne nx ny cx cy =
+    before : (i ≡ 127 → ⊥) → ⊥
+    before ne =
         let s = total-off xs ys i 127 d (omega arith) (omega arith) in
         let t = d.else 127 (omega arith) (λ q. ne (sym q)) in
-        let fx = word_fits xs i bx in
-        let fy = word_fits ys i by in
-        d.differs (omega arith)
+        d.differs (omega (arith, number_of k xs sx, number_of k ys sy, check_is k xs sx, check_is k ys sy, word_fits xs i bx, word_fits ys i by))
 
 pub returns : goal.returns
 returns c k i xs ys bx by l d sx =

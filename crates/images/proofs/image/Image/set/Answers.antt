@@ -1,5 +1,7 @@
-use Rattle.std.proofs.Common.{◌≡◌, ◌+◌, ◌-◌, ◌*◌, ◌/◌, ◌≤◌, min, length, ap, arith}
-use Rattle.images.proofs.Renewed.{over_length, put_cell, word_alone}
+use Rattle.std.proofs.Common.{◌≡◌, ℕ, ◌+◌, ◌-◌, ◌*◌, ◌/◌, ◌%◌, List, subst, rules, arith}
+use Rattle.images.specs.Blocks.{ElseKept}
+use Rattle.images.proofs.Chunks.{chunk_at}
+use Rattle.images.proofs.Renewed.{Renewed, put_cell, word_alone}
 use Rattle.images.proofs.image.Image.set.Goals as goal
 
 pub returns : goal.returns
@@ -7,13 +9,21 @@ returns c =
     let xs = c.args.self.now.bytes.now in
     let ys = c.set_word.new.block in
     let a = c.args.address in
+    let v = c.args.word in
     let n = 512 * (a / 126) + 512 - 512 * (a / 126) in
     let e : n ≡ 512 = omega arith in
-    let h : 512 * (a / 126) + 512 ≤ length xs = omega arith in
-    let l : length ys ≡ 512 = omega arith in
     let done = c.set_word.ensures in
+    let block = chunk_at 512 _ (a / 126) xs _ c.as_chunks.ensures.front (omega arith) in
+    let r : Renewed xs ys a v = record {
+      fits = omega arith;
+      long = omega arith;
+      was = c.requires.1;
+      sets = done.sets;
+      keeps = subst (λ (b : List ℕ). ElseKept (4 * (a % 126)) (4 * (a % 126) + 4) 508 512 b ys) block done.keeps;
+      checks = done.checks;
+    } in
     record {
-      cells = put_cell xs ys a c.args.word n e h l c.requires.1 done.sets done.keeps done.checks;
-      same = ap (λ m. min (m / 512 * 126) 4096) (over_length xs ys (a / 126) n e h l);
-      bytes = word_alone xs ys a c.args.word n e h l c.requires.1 done.sets done.keeps done.checks;
+      cells = rw c.copy_from_slice.ensures.after (put_cell xs ys a v n e r);
+      same = search rules;
+      bytes = rw c.copy_from_slice.ensures.after (word_alone xs ys a v n e r);
     }
