@@ -1,149 +1,100 @@
 //! What the bank's tables answer, and how they change.
-ghost use Rattle.std.specs.Prelude.{◌≡◌, ℕ, ◌+◌, ◌<◌, ◌≤◌, [], ◌∷◌, ◌++◌, length, IfSome, IfOk, vec_len};
-ghost use Rattle.rules.specs.Places.{any};
-ghost use Rattle.rules.specs.Bank.{fresh_bank, unkept, line_place, live, stamp_at, made, with_line, with_mark, waits_on, leased, kept_stamp, kept_place, line_at};
-ghost use Rattle.bank.specs.BankView.{bank_state};
+ghost use Rattle.std.specs.Prelude.{◌≡◌, ℕ, ◌+◌, ◌<◌, ◌≤◌, [], ◌∷◌, ◌++◌, length, IfSome, IfOk};
+ghost use Rattle.rules.specs.Stamps.{runs};
+ghost use Rattle.rules.specs.Bank.{fresh_bank, unkept, line_place, live, stamp_at, made, with_mark, kept_stamp, kept_place};
 
 use crate::bank_table::Bank;
 use rules::addressed::place_of;
-use rules::record::{KeptStamp, Line};
+use rules::record::Line;
 use rules::stamp::runs;
 use std::alloc::{AllocError, Global};
 
-/// A stamp that runs, else 0.
-pub(crate) fn live(stamp: u32, clock: u32) -> u32
+/// A stamp that runs, else 0: ticks begin at 1, so the rules and the answers have 0 for none.
+fn live(stamp: u32, clock: u32) -> u32
     ensures { result ≡ live stamp clock }
 {
     if runs(stamp, clock) { stamp } else { 0 }
 }
 
-/// Whether a mark is on the address.
-fn waits_on(mark: Option<u32>, address: u32) -> bool
-    ensures { result ≡ waits_on address mark }
-{
-    match mark {
-        Some(x) => x == address,
-        None => false,
-    }
-}
-
-/// Whether some lane waits on the address.
-pub(crate) fn any_waits(marks: &[Option<u32>], address: u32) -> bool
-    ensures { result ≡ any (waits_on address) marks.now }
-{
-    for m in marks {
-        if waits_on(*m, address) {
-            return true;
-        }
-    }
-    false
-}
-
 impl Bank {
     /// A bank with all its room reserved.
     pub fn new(heap: Global) -> Result<Bank, AllocError>
-        ensures { IfOk result (λ b. bank_state b ≡ fresh_bank) }
+        ensures { IfOk result (λ b. b ≡ fresh_bank) }
     {
-        let lines = Vec::with_capacity(heap, 256)?;
-        let kept = Vec::with_capacity(heap, 128)?;
         Ok(Bank {
-            lines,
-            kept,
+            lines: Vec::with_capacity(heap, 256)?,
+            kept: Vec::with_capacity(heap, 128)?,
             waiting: [None; 16],
         })
     }
 
     /// The place of an address's line.
     pub(crate) fn line_place(&self, address: u32) -> Option<usize>
-        ensures value { result ≡ line_place (bank_state self.now) address }
-        ensures inside { IfSome result (λ i. i < vec_len self.now.lines) }
+        ensures value { result ≡ line_place self.now address }
+        ensures inside { IfSome result (λ i. i < length self.now.lines) }
     {
-        place_of(self.lines.as_slice(), address)
+        place_of(&self.lines, address)
     }
 
     /// The running kept stamp of an address, else 0.
-    pub(crate) fn kept_stamp(&self, address: u32, clock: u32) -> u32
-        ensures { result ≡ kept_stamp (bank_state self.now) clock (kept_place (bank_state self.now) address) }
+    fn kept_stamp(&self, address: u32, clock: u32) -> u32
+        ensures { result ≡ kept_stamp self.now clock (kept_place self.now address) }
     {
-        match place_of(self.kept.as_slice(), address) {
-            Some(at) => live(self.kept[at].stamp, clock),
+        place_of(&self.kept, address).map_or(0, |at| live(self.kept[at].stamp, clock))
+    }
+
+    /// Whether the stamp of an address runs, whose line stands at a place, or that has none. (No type
+    /// ties a place to the lines.)
+    pub(crate) fn stamp_runs(&self, place: Option<usize>, address: u32, clock: u32) -> bool
+        requires { IfSome place (λ i. i < length self.now.lines) }
+        ensures { result ≡ runs (stamp_at self.now clock address place) clock }
+    {
+        let stamp = match place {
+            Some(at) => self.lines[at].stamp,
+            None => self.kept_stamp(address, clock),
+        };
+        runs(stamp, clock)
+    }
+
+    /// Takes out the kept stamp of an address: the stamp if it runs, else 0. (Not by `kept_stamp`, which
+    /// would search twice.)
+    fn take_kept(&mut self, address: u32, clock: u32) -> u32
+        ensures value { result ≡ kept_stamp self.old clock (kept_place self.old address) }
+        ensures after { self.new ≡ unkept self.old address }
+    {
+        match place_of(&self.kept, address) {
+            Some(at) => live(self.kept.remove(at).stamp, clock),
             None => 0,
         }
     }
 
-    /// The stamp of an address whose line stands at a place, or that has none.
-    pub(crate) fn stamp_at(&self, place: Option<usize>, address: u32, clock: u32) -> u32
-        requires { IfSome place (λ i. i < vec_len self.now.lines) }
-        ensures { result ≡ stamp_at (bank_state self.now) clock address place }
-    {
-        match place {
-            Some(at) => self.lines[at].stamp,
-            None => self.kept_stamp(address, clock),
-        }
-    }
-
-    /// Drops the kept stamp of an address.
-    fn drop_kept(&mut self, address: u32)
-        ensures { bank_state self.new ≡ unkept (bank_state self.old) address }
-    {
-        if let Some(at) = place_of(self.kept.as_slice(), address) {
-            self.kept.remove(at);
-        }
-    }
-
-    /// Makes an unchanged line with the address's stamp, and answers its place; the kept stamp goes.
+    /// Makes an unchanged line with the address's stamp, and answers its place; the kept stamp goes. (No
+    /// type ties room to the lines.)
     pub(crate) fn make_line(&mut self, address: u32, value: u32, clock: u32) -> usize
-        requires { vec_len self.old.lines < 256 }
-        ensures value { result ≡ length (bank_state self.old).lines }
-        ensures after { bank_state self.new ≡ made (bank_state self.old) clock address value }
-        ensures inside { result < vec_len self.new.lines }
+        requires { length self.old.lines < 256 }
+        ensures value { result ≡ length self.old.lines }
+        ensures after { self.new ≡ made self.old clock address value }
+        ensures inside { result < length self.new.lines }
     {
-        let at = self.lines.len();
-        let stamp = self.kept_stamp(address, clock);
-        self.drop_kept(address);
+        let stamp = self.take_kept(address, clock);
         self.lines.push_reserved(Line {
             address,
             value,
             stamp,
             changed: false,
         });
-        at
-    }
-
-    /// Puts a line at a place.
-    pub(crate) fn set_line(&mut self, at: usize, line: Line)
-        requires { at < vec_len self.old.lines }
-        ensures after { bank_state self.new ≡ with_line (bank_state self.old) at line }
-    {
-        self.lines[at] = line;
-    }
-
-    /// The line at a place.
-    pub(crate) fn line_at(&self, at: usize) -> Line
-        requires { at < vec_len self.now.lines }
-        ensures { result ≡ line_at (bank_state self.now) at }
-    {
-        self.lines[at]
+        self.lines.len() - 1
     }
 
     /// Marks a lane as waiting on an address, or on none.
+    #[tactic(auto, using(std::proofs::lemmas::List::set_past))]
     pub fn mark(&mut self, lane: u32, on: Option<u32>)
-        ensures { bank_state self.new ≡ with_mark (bank_state self.old) lane on }
+        ensures { self.new ≡ with_mark self.old lane on }
     {
-        let k = lane as usize;
-        if k < 16 {
-            self.waiting[k] = on;
-        }
-    }
-
-    /// The stamp that a load gives: raised, unless a lane waits on the address.
-    pub(crate) fn leased(&self, until: u32, address: u32, stamp: u32) -> u32
-        ensures { result ≡ leased (bank_state self.now) until address stamp }
-    {
-        if any_waits(&self.waiting, address) {
-            stamp
-        } else {
-            stamp.max(until)
+        // not `get_mut`: its contract does not say what the row ends as
+        let lane = lane as usize;
+        if lane < self.waiting.len() {
+            self.waiting[lane] = on;
         }
     }
 }

@@ -1,8 +1,8 @@
 //! The tables of the bank, and how it serves a request.
 #![tactic(auto)]
 
-pub mod admits;
+mod admits;
 pub mod bank_calls;
 pub mod bank_table;
-pub mod kinds;
+mod lines;
 pub mod serves;

@@ -1,152 +1,131 @@
-//! Serving a request that was admitted.
-ghost use Rattle.std.specs.Prelude.{◌≡◌, ℕ, ◌<◌, ◌≤◌, Bool, [], ◌∷◌, IfOk, if◌then◌else◌, Ok, vec_len, MatchOption};
-ghost use Rattle.memories.specs.Cells.{read_answer};
+//! A request's turn at the bank: the last checks, and serving it.
+ghost use Rattle.std.specs.Prelude.{◌≡◌, ℕ, ◌<◌, IfOk, Ok, Err, is_some, length, MatchOption};
 ghost use Rattle.lifetimes.specs.Told.{Told};
 ghost use Rattle.messages.specs.Requests.{address_of};
-ghost use Rattle.rules.specs.Bank.{fetch, load_line, store_line, atomic_line, line_at, with_line, written, write_events};
-ghost use Rattle.bank.specs.BankView.{bank_state};
+ghost use Rattle.rules.specs.Bank.{fetch};
+ghost use Rattle.rules.specs.Serves.{answer_by, turn_served};
+ghost use Rattle.bank.specs.BankServes.{read_for, made_of, line_served};
 
-use crate::bank_calls::live;
 use crate::bank_table::Bank;
-use lifetimes::policy::{Event, LifetimePolicy};
+use crate::lines::{lease, write};
+use calls::call::Protocol;
+use calls::refusal::Refusal;
+use lifetimes::policy::LifetimePolicy;
 use memories::memory::{Fault, Memory};
 use messages::answer::Answer;
 use messages::request::Request;
-use rules::record::Line;
-use rules::stamp::runs;
+use rules::clock::Clock;
 
-/// Tells the policy of an event that may have happened.
-pub(crate) fn tell_when<P: LifetimePolicy>(policy: &mut P, happened: bool, event: Event)
-    ensures { Told P.LifetimePolicy.heard policy.old (if happened then event ∷ [] else []) policy.new }
+/// What a fault comes to: an unreadable block travels on as an answer, and an address past the memory
+/// is refused. (Not a `From`: it takes two values.)
+fn fault_answer(request: Request, fault: Fault) -> Result<Answer, Refusal>
+    ensures { result ≡ answer_by request (Err fault) }
 {
-    if happened {
-        policy.tell(event);
+    match fault {
+        Fault::Unreadable { block } => Ok(Answer::Fault {
+            wave: request.wave(),
+            address: request.address(),
+            block,
+        }),
+        Fault::UnknownAddress => Err(Refusal::UnknownAddress),
     }
 }
 
 impl Bank {
-    /// The place of an address's line; a missing one is made from memory's word.
-    pub(crate) fn fetch<M: Memory>(
+    /// A request's turn: the last checks, 7 and 8, and then serving. Cause 7 comes under TC-Strong,
+    /// for a store or atomic on an address whose stamp runs, and marks the lane as waiting.
+    pub fn serve<M: Memory, P: LifetimePolicy>(
         &mut self,
+        protocol: Protocol,
+        clock: Clock,
+        lane: u32,
+        request: Request,
         memory: &M,
-        place: Option<usize>,
-        address: u32,
-        clock: u32,
-    ) -> Result<usize, Fault>
-        requires { MatchOption place (vec_len self.old.lines < 256) (λ i. i < vec_len self.old.lines) }
-        ensures value { result ≡ (fetch (bank_state self.old) clock address (read_answer (M.Memory.size memory.now) (M.Memory.cell memory.now) address) place).place }
-        ensures after { bank_state self.new ≡ (fetch (bank_state self.old) clock address (read_answer (M.Memory.size memory.now) (M.Memory.cell memory.now) address) place).bank }
-        ensures inside { IfOk result (λ i. i < vec_len self.new.lines) }
+        policy: &mut P,
+    ) -> Result<Answer, Refusal>
+        ensures answer { result ≡ (turn_served self.old protocol clock (P.LifetimePolicy.present policy.old) (read_for M.Memory memory.now request) lane request).answer }
+        ensures after { self.new ≡ (turn_served self.old protocol clock (P.LifetimePolicy.present policy.old) (read_for M.Memory memory.now request) lane request).bank }
+        ensures told { Told P.LifetimePolicy.heard policy.old (turn_served self.old protocol clock (P.LifetimePolicy.present policy.old) (read_for M.Memory memory.now request) lane request).events policy.new }
     {
-        match place {
-            Some(at) => Ok(at),
-            None => {
-                let word = memory.read(address)?;
-                Ok(self.make_line(address, word, clock))
-            }
+        let place = self.admit(protocol, clock.tick(), lane, request)?;
+        match self.fetch(place, clock, request, memory) {
+            Ok(at) => Ok(self.serve_line(at, place.is_some(), clock, request, policy)),
+            Err(fault) => fault_answer(request, fault),
         }
     }
 
-    /// A load of the line at a place; `met` says that the line was there before.
-    pub(crate) fn load_line<P: LifetimePolicy>(
+    /// The place of a request's line. A missing line is made, from memory's word or, without a look
+    /// at memory, from what a store writes. (No type ties a place to the lines.)
+    fn fetch<M: Memory>(
         &mut self,
-        policy: &mut P,
+        place: Option<usize>,
+        clock: Clock,
+        request: Request,
+        memory: &M,
+    ) -> Result<usize, Fault>
+        requires { MatchOption place (length self.old.lines < 256) (λ i. i < length self.old.lines) }
+        ensures value { result ≡ (fetch self.old clock (address_of request) (made_of request (read_for M.Memory memory.now request)) place).place }
+        ensures after { self.new ≡ (fetch self.old clock (address_of request) (made_of request (read_for M.Memory memory.now request)) place).bank }
+        ensures inside { IfOk result (λ i. i < length self.new.lines) }
+    {
+        if let Some(at) = place {
+            return Ok(at);
+        }
+        let address = request.address();
+        let word = match request {
+            Request::Store { operand, .. } => operand,
+            _ => memory.read(address)?,
+        };
+        Ok(self.make_line(address, word, clock.tick()))
+    }
+
+    /// Serves a request on the line at a place. An add works modulo 2^32. `met` says that the line was
+    /// there before: a flag, since only the event of a load asks it. (No type ties a place to the lines.)
+    fn serve_line<P: LifetimePolicy>(
+        &mut self,
         at: usize,
         met: bool,
-        wave: u32,
-        address: u32,
-        clock: u32,
-        until: u32,
-    ) -> Answer
-        requires { at < vec_len self.old.lines }
-        ensures answer { Ok result ≡ (load_line (bank_state self.old) clock until wave address met at).answer }
-        ensures after { bank_state self.new ≡ (load_line (bank_state self.old) clock until wave address met at).bank }
-        ensures told { Told P.LifetimePolicy.heard policy.old (load_line (bank_state self.old) clock until wave address met at).events policy.new }
-    {
-        let line = self.line_at(at);
-        let stamp = self.leased(until, address, line.stamp);
-        tell_when(policy, met && !runs(line.stamp, clock), Event::LoadMetOver);
-        self.set_line(at, Line { stamp, ..line });
-        Answer::Load {
-            wave,
-            address,
-            value: line.value,
-            stamp,
-        }
-    }
-
-    /// Writes a word into the line at a place: the line as it was.
-    fn write_line<P: LifetimePolicy>(
-        &mut self,
+        clock: Clock,
+        request: Request,
         policy: &mut P,
-        at: usize,
-        value: u32,
-        clock: u32,
-    ) -> Line
-        requires { at < vec_len self.old.lines }
-        ensures value { result ≡ line_at (bank_state self.old) at }
-        ensures after { bank_state self.new ≡ with_line (bank_state self.old) at (written (line_at (bank_state self.old) at) value) }
-        ensures told { Told P.LifetimePolicy.heard policy.old (write_events (bank_state self.old) clock at) policy.new }
+    ) -> Answer
+        requires { at < length self.old.lines }
+        ensures answer { Ok result ≡ (line_served self.old clock (P.LifetimePolicy.present policy.old) met at request).answer }
+        ensures after { self.new ≡ (line_served self.old clock (P.LifetimePolicy.present policy.old) met at request).bank }
+        ensures told { Told P.LifetimePolicy.heard policy.old (line_served self.old clock (P.LifetimePolicy.present policy.old) met at request).events policy.new }
     {
-        let line = self.line_at(at);
-        tell_when(policy, runs(line.stamp, clock), Event::WriteMetRunning);
-        self.set_line(
-            at,
-            Line {
+        let wave = request.wave();
+        let address = request.address();
+        let line = &mut self.lines[at];
+        let value = line.value;
+        let stamp = match request {
+            Request::Load { .. } => {
+                let waits = self.waiting.contains(&Some(address));
+                lease(line, met, waits, clock, policy)
+            }
+            Request::Add { operand, .. } => write(line, value.wrapping_add(operand), clock, policy),
+            Request::Store { operand, .. } | Request::Exchange { operand, .. } => {
+                write(line, operand, clock, policy)
+            }
+        };
+        match request {
+            Request::Load { .. } => Answer::Load {
+                wave,
+                address,
                 value,
-                changed: true,
-                ..line
+                stamp,
             },
-        );
-        line
-    }
-
-    /// A store into the line at a place.
-    pub(crate) fn store_line<P: LifetimePolicy>(
-        &mut self,
-        policy: &mut P,
-        at: usize,
-        wave: u32,
-        address: u32,
-        operand: u32,
-        clock: u32,
-    ) -> Answer
-        requires { at < vec_len self.old.lines }
-        ensures answer { Ok result ≡ (store_line (bank_state self.old) clock wave address operand at).answer }
-        ensures after { bank_state self.new ≡ (store_line (bank_state self.old) clock wave address operand at).bank }
-        ensures told { Told P.LifetimePolicy.heard policy.old (store_line (bank_state self.old) clock wave address operand at).events policy.new }
-    {
-        let line = self.write_line(policy, at, operand, clock);
-        let stamp = live(line.stamp, clock);
-        Answer::Store {
-            wave,
-            address,
-            stamp,
-        }
-    }
-
-    /// An atomic on the line at a place, which gets a new value and answers its old one.
-    pub(crate) fn atomic_line<P: LifetimePolicy>(
-        &mut self,
-        policy: &mut P,
-        at: usize,
-        wave: u32,
-        address: u32,
-        value: u32,
-        clock: u32,
-    ) -> Answer
-        requires { at < vec_len self.old.lines }
-        ensures answer { Ok result ≡ (atomic_line (bank_state self.old) clock wave address value at).answer }
-        ensures after { bank_state self.new ≡ (atomic_line (bank_state self.old) clock wave address value at).bank }
-        ensures told { Told P.LifetimePolicy.heard policy.old (atomic_line (bank_state self.old) clock wave address value at).events policy.new }
-    {
-        let line = self.write_line(policy, at, value, clock);
-        let stamp = live(line.stamp, clock);
-        Answer::Atomic {
-            wave,
-            address,
-            value: line.value,
-            stamp,
+            Request::Store { .. } => Answer::Store {
+                wave,
+                address,
+                stamp,
+            },
+            Request::Add { .. } | Request::Exchange { .. } => Answer::Atomic {
+                wave,
+                address,
+                value,
+                stamp,
+            },
         }
     }
 }

@@ -1,7 +1,13 @@
 -- A core's tables as the rule book has them.
-use Rattle.std.specs.Prelude.{vec_items}
+use Rattle.std.specs.Prelude.{map, vec_items}
 use Rattle.rules.specs.State.{CoreState}
-use Rattle.cores.specs.declared.core_table.Core.{Core}
+use Rattle.cores.specs.declared.core_table.Wave.{Wave}
+use Rattle.cores.specs.declared.core_table.Core.TheInside.{Inside}
 
-abbrev pub core_state : Core → CoreState
-core_state c = record { copies = c.copies; pending = vec_items c.pending; visible = c.visible; fences = c.fences }
+abbrev pub core_state : Inside → CoreState
+core_state c = record {
+  copies = c.copies;
+  pending = vec_items c.pending;
+  visible = map (λ (w : Wave). w.visible) c.waves;
+  fences = map (λ (w : Wave). w.fenced) c.waves;
+}

@@ -1,19 +1,32 @@
 //! The tables of one core.
-ghost use Rattle.std.specs.Prelude.{◌≡◌, ◌≤◌, length, vec_capacity};
-
 use messages::request::Request;
 use rules::record::LeasedCopy;
+use std::marker::Model;
 
-/// One core: its copies, its pending requests (oldest first), and for each wave the visible-by
-/// stamp and whether a fence is open.
+/// What a core keeps for a wave: its visible-by stamp, and whether its fence is open.
+#[derive(Clone, Copy)]
+pub(crate) struct Wave {
+    pub(crate) visible: u32,
+    pub(crate) fenced: bool,
+}
+
+/// One core: its copies, its pending requests (oldest first), and its waves.
 #[derive(Drop)]
 pub struct Core {
     pub(crate) copies: [Option<LeasedCopy>; 64],
     pub(crate) pending: Vec<Request>,
-    pub(crate) visible: [u32; 48],
-    pub(crate) fences: [bool; 48],
-    ghost room: { 32 ≤ vec_capacity pending },
-    ghost places: { length copies ≡ 64 },
-    ghost waves: { length visible ≡ 48 },
-    ghost gates: { length fences ≡ 48 },
+    pub(crate) waves: [Wave; 48],
+}
+
+impl Model for Core {
+    ghost use Rattle.std.specs.Prelude.{◌≡◌, ◌≤◌, length, vec_capacity};
+    ghost use Rattle.rules.specs.State.{CoreState};
+
+    ghost Value = { CoreState };
+
+    ghost use Rattle.cores.specs.CoreView.{core_state};
+
+    ghost view = { core_state };
+
+    ghost invariant = { λ c. (32 ≤ vec_capacity c.pending) × (length c.copies ≡ 64) × (length c.waves ≡ 48) };
 }

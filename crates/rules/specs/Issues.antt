@@ -6,8 +6,6 @@ use Rattle.messages.specs.declared.request.Request.{Request}
 use Rattle.messages.specs.declared.request.Request.TheVariants as request
 use Rattle.calls.specs.declared.refusal.Refusal.{Refusal}
 use Rattle.calls.specs.declared.refusal.Refusal.TheVariants.{UnknownCore, UnknownAddress, FenceOpen, PendingFull, LaneFull}
-use Rattle.calls.specs.declared.outcome.Loaded.{Loaded}
-use Rattle.calls.specs.declared.outcome.Loaded.TheVariants.{Hit, Sent}
 use Rattle.rules.specs.State.{State, TablesState}
 use Rattle.rules.specs.Cores.{hit, issued, fenced, holds, copy_at, dropped}
 use Rattle.rules.specs.Outs.{Out, refused, answered, with_tables, core_at, with_core, put_net}
@@ -49,16 +47,17 @@ abbrev pub room_by : {X : Type 0} → State → ℕ → Request → X → Result
 room_by s core q x (Err e) = refused s e
 room_by s core q x (Ok _) = send s core q x
 
-abbrev pub hit_by : State → ℕ → Request → Option ℕ → Out Loaded
-hit_by s core q (Some v) = answered s (Hit v)
-hit_by s core q None = room_by s core q Sent (room_check s.tables core)
+-- a running copy answers its value; otherwise a request is sent, and no value is answered
+abbrev pub hit_by : State → ℕ → Request → Option ℕ → Out (Option ℕ)
+hit_by s core q (Some v) = answered s (Some v)
+hit_by s core q None = room_by s core q None (room_check s.tables core)
 
-abbrev pub load_by : State → ℕ → ℕ → ℕ → Result Unit Refusal → Out Loaded
+abbrev pub load_by : State → ℕ → ℕ → ℕ → Result Unit Refusal → Out (Option ℕ)
 load_by s core wave a (Err e) = refused s e
 load_by s core wave a (Ok _) = hit_by s core (request.Load wave a) (hit (core_at s.tables core) s.tables.clock a)
 
 -- a load: checks 1, 2, 3, the hit, 4, 5
-abbrev pub load_step : State → ℕ → ℕ → ℕ → Out Loaded
+abbrev pub load_step : State → ℕ → ℕ → ℕ → Out (Option ℕ)
 load_step s core wave a = load_by s core wave a (issue_check s.tables s.memory.size core wave a)
 
 abbrev pub write_by : State → ℕ → Request → Result Unit Refusal → Out Unit

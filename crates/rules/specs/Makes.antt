@@ -1,11 +1,9 @@
 -- A call as a value: what it comes to, and the state after it.
-use Rattle.std.specs.Prelude.{ℕ, List, Ok, Err, Result}
+use Rattle.std.specs.Prelude.{ℕ, List, Some, None, Ok, Err, Option, Result}
 use Rattle.lifetimes.specs.declared.policy.Event.{Event}
 use Rattle.calls.specs.declared.refusal.Refusal.{Refusal}
 use Rattle.calls.specs.declared.call.Call.{Call}
 use Rattle.calls.specs.declared.call.Call.TheVariants.{Start, Load, Store, Serve, Deliver, Tick}
-use Rattle.calls.specs.declared.outcome.Loaded.{Loaded}
-use Rattle.calls.specs.declared.outcome.Loaded.TheVariants as loaded
 use Rattle.calls.specs.declared.outcome.Delivered.{Delivered}
 use Rattle.calls.specs.declared.outcome.Outcome.{Outcome}
 use Rattle.calls.specs.declared.outcome.Outcome.TheVariants as outcome
@@ -16,14 +14,19 @@ use Rattle.rules.specs.Issues.{load_step, store_step}
 use Rattle.rules.specs.Serves.{serve_step}
 use Rattle.rules.specs.Delivers.{deliver_step}
 
+-- a refusal is an outcome too
+abbrev pub outcome_of : Result Outcome Refusal → Outcome
+outcome_of (Ok o) = o
+outcome_of (Err e) = outcome.Refused e
+
 abbrev pub started_outcome : Result Unit Refusal → Outcome
 started_outcome (Ok _) = outcome.Started
 started_outcome (Err e) = outcome.Refused e
 
--- the address is the call's
-abbrev pub loaded_outcome : ℕ → Result Loaded Refusal → Outcome
-loaded_outcome a (Ok (loaded.Hit v)) = outcome.Hit a v
-loaded_outcome a (Ok loaded.Sent) = outcome.Sent
+-- a value is a hit, none says that a request was sent; the address is the call's
+abbrev pub loaded_outcome : ℕ → Result (Option ℕ) Refusal → Outcome
+loaded_outcome a (Ok (Some v)) = outcome.Hit a v
+loaded_outcome a (Ok None) = outcome.Sent
 loaded_outcome a (Err e) = outcome.Refused e
 
 abbrev pub sent_outcome : Result Unit Refusal → Outcome

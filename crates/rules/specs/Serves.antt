@@ -1,5 +1,5 @@
 -- Serving a core's oldest request.
-use Rattle.std.specs.Prelude.{ℕ, cond, List, length, Some, None, Ok, Err, Option, Result, nat_le}
+use Rattle.std.specs.Prelude.{ℕ, cond, List, [], length, Some, None, Ok, Err, Option, Result, nat_le}
 use Rattle.memories.specs.Cells.{read_answer}
 use Rattle.memories.specs.declared.memory.Fault.{Fault}
 use Rattle.memories.specs.declared.memory.Fault.TheVariants as fault
@@ -9,9 +9,10 @@ use Rattle.messages.specs.declared.request.Request.{Request}
 use Rattle.messages.specs.declared.answer.Answer.{Answer}
 use Rattle.messages.specs.declared.answer.Answer.TheVariants as answer
 use Rattle.messages.specs.Requests.{wave_of, address_of}
+use Rattle.calls.specs.declared.call.Protocol.{Protocol}
 use Rattle.calls.specs.declared.refusal.Refusal.{Refusal}
 use Rattle.calls.specs.declared.refusal.Refusal.TheVariants.{UnknownCore, UnknownAddress, LaneFull, NothingWaits}
-use Rattle.rules.specs.State.{State, BankState}
+use Rattle.rules.specs.State.{State, TablesState, BankState}
 use Rattle.rules.specs.Bank.{Admitted, Banked, admit, bank_serve, with_mark}
 use Rattle.rules.specs.Outs.{Out, refused, with_tables, with_bank, put_net, take_net}
 
@@ -63,3 +64,42 @@ serve_oldest s life core (Some q) =
 abbrev pub serve_step : State → ℕ → ℕ → Out Unit
 serve_step s life core =
     cond (nat_le (length s.tables.cores) core) (refused s UnknownCore) (serve_oldest s life core (oldest (s.requests.lanes core)))
+
+-- what a request's turn at the bank comes to: the answer or the refusal, the bank after it, and what
+-- the policy is told
+pub record Turn : Type 0 where
+  pub answer : Result Answer Refusal
+  pub bank : BankState
+  pub events : List Event
+
+-- a refusal leaves the bank as it was, and tells nothing
+abbrev pub turn_by : BankState → Banked → Result Answer Refusal → Turn
+turn_by b k (Ok a) = record { answer = Ok a; bank = k.bank; events = k.events }
+turn_by b k (Err e) = record { answer = Err e; bank = b; events = [] }
+
+abbrev pub turn_banked : BankState → Request → Banked → Turn
+turn_banked b q k = turn_by b k (answer_by q k.answer)
+
+abbrev pub turn_admitted : BankState → ℕ → ℕ → Result ℕ Fault → Request → Result (Option ℕ) Refusal → Turn
+turn_admitted b clock life word q (Err e) = record { answer = Err e; bank = b; events = [] }
+turn_admitted b clock life word q (Ok place) = turn_banked b q (bank_serve b clock life word place q)
+
+-- the last checks, 7 and 8, and then serving; word is what memory answers at the request's address
+abbrev pub turn_served : BankState → Protocol → ℕ → ℕ → Result ℕ Fault → ℕ → Request → Turn
+turn_served b p clock life word lane q =
+    turn_admitted (admit b p clock lane q).bank clock life word q (admit b p clock lane q).answer
+
+-- how serving goes on from a request's turn: its answer goes to its lane
+abbrev pub turn_out : State → ℕ → BankState → List Event → Result Answer Refusal → Out Unit
+turn_out s core b es (Ok a) = record { answer = Ok tt; after = answered_lane s core b a; events = es }
+turn_out s core b es (Err e) = record { answer = Err e; after = with_tables s (with_bank s.tables b); events = es }
+
+abbrev pub turn_ended : State → ℕ → Turn → Out Unit
+turn_ended s core t = turn_out s core t.bank t.events t.answer
+
+-- the turn of a core's request; word is what memory answers at its address
+abbrev pub turn_at : TablesState → ℕ → Result ℕ Fault → ℕ → Request → Turn
+turn_at t life word core q = turn_served t.bank t.protocol t.clock life word core q
+
+abbrev pub turn_of : State → ℕ → ℕ → Request → Turn
+turn_of s life core q = turn_at s.tables life (read_answer s.memory.size s.memory.cell (address_of q)) core q

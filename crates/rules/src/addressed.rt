@@ -18,8 +18,7 @@ impl Addressed for Line {
     ghost named = { λ l. l.address };
 
     fn address_of(&self) -> u32 {
-        let Line { address, .. } = *self;
-        address
+        self.address
     }
 }
 
@@ -27,8 +26,7 @@ impl Addressed for KeptStamp {
     ghost named = { λ k. k.address };
 
     fn address_of(&self) -> u32 {
-        let KeptStamp { address, .. } = *self;
-        address
+        self.address
     }
 }
 
@@ -40,22 +38,10 @@ impl Addressed for Request {
     }
 }
 
-/// Whether a record names the address.
-fn names<R: Addressed>(item: &R, address: u32) -> bool
-    ensures { result ≡ (R.Addressed.named item.now == address) }
-{
-    item.address_of() == address
-}
-
 /// The place of the first record of an address.
 pub fn place_of<R: Addressed>(row: &[R], address: u32) -> Option<usize>
     ensures value { result ≡ place_from (λ x. nat_eq (R.Addressed.named x) address) 0 row.now }
     ensures inside { IfSome result (λ i. i < length row.now) }
 {
-    for (i, x) in row.iter().enumerate() {
-        if names(x, address) {
-            return Some(i);
-        }
-    }
-    None
+    row.iter().position(|x| x.address_of() == address)
 }

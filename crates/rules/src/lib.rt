@@ -3,5 +3,6 @@
 
 pub mod addressed;
 pub mod cases;
+pub mod clock;
 pub mod record;
 pub mod stamp;
