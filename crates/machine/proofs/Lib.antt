@@ -1,2 +1,2 @@
 pub mod LaneTests
-pub mod Views
+pub mod Turns

@@ -1,1 +1,2 @@
+pub mod TablesView
 pub mod View

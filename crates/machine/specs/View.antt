@@ -1,22 +1,10 @@
 -- A machine as the rule book has it, by the meanings of its nets and its memory.
-use Rattle.std.specs.Prelude.{map, vec_items}
 use Rattle.lanes.specs.declared.net.LaneNet as net
 use Rattle.memories.specs.declared.memory.Memory as memory
 use Rattle.messages.specs.declared.request.Request.{Request}
 use Rattle.messages.specs.declared.answer.Answer.{Answer}
-use Rattle.cores.specs.CoreView.{core_state}
-use Rattle.bank.specs.BankView.{bank_state}
-use Rattle.machine.specs.declared.tables.Tables.{Tables}
 use Rattle.machine.specs.declared.tables.Machine.{Machine}
-use Rattle.rules.specs.State.{State, TablesState, NetState, MemoryState}
-
-abbrev pub tables_state : Tables → TablesState
-tables_state t = record {
-  clock = t.clock;
-  protocol = t.protocol;
-  cores = map core_state (vec_items t.cores);
-  bank = bank_state t.bank;
-}
+use Rattle.rules.specs.State.{State, NetState, MemoryState}
 
 abbrev pub net_state : {N X : Type 0} → net.Ghosts N X → N → NetState X
 net_state g n = record { lanes = g.lanes n; depth = g.depth n }
@@ -26,7 +14,7 @@ memory_state g m = record { size = g.size m; cell = g.cell m }
 
 abbrev pub view : {Q R M P : Type 0} → net.Ghosts Q Request → net.Ghosts R Answer → memory.Ghosts M → Machine Q R M P → State
 view q r m s = record {
-  tables = tables_state s.tables;
+  tables = s.tables;
   requests = net_state q s.requests;
   answers = net_state r s.answers;
   memory = memory_state m s.memory;

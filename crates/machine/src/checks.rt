@@ -1,98 +1,124 @@
 //! What the tables answer, and how they change.
-ghost use Rattle.std.specs.Prelude.{◌≡◌, ℕ, ◌<◌, ◌≤◌, length};
+ghost use Rattle.std.specs.Prelude.{◌≡◌, ◌<◌, ℕ, ◌≤◌, None, Ok, Err, length, nat_le, cond, if◌then◌else◌, IfOk, OnOk, MatchResult};
+ghost use Rattle.calls.specs.declared.refusal.Refusal.TheVariants as refusal;
 ghost use Rattle.lanes.specs.Lanes.{oldest};
-ghost use Rattle.cores.specs.CoreView.{core_state};
-ghost use Rattle.rules.specs.Cores.{hit, issued};
-ghost use Rattle.rules.specs.Outs.{core_at, with_core};
-ghost use Rattle.rules.specs.Issues.{issue_check, room_check};
+ghost use Rattle.rules.specs.Cores.{issued};
+ghost use Rattle.memories.specs.Cells.{read_answer};
+ghost use Rattle.lifetimes.specs.Told.{Told};
+ghost use Rattle.messages.specs.Requests.{address_of};
+ghost use Rattle.rules.specs.Bank.{with_mark};
+ghost use Rattle.rules.specs.Outs.{core_at, with_bank, with_core};
+ghost use Rattle.rules.specs.Serves.{turn_at};
+ghost use Rattle.rules.specs.Issues.{issue_check};
 ghost use Rattle.rules.specs.Delivers.{handed_at};
-ghost use Rattle.machine.specs.View.{tables_state};
 
 use crate::tables::Tables;
 use calls::refusal::Refusal;
 use cores::core_table::Core;
+use lifetimes::policy::LifetimePolicy;
+use memories::memory::Memory;
 use messages::answer::Answer;
 use messages::request::Request;
 
 impl Tables {
     /// How many cores there are.
     pub(crate) fn count(&self) -> usize
-        ensures { result ≡ length (tables_state self.now).cores }
+        ensures { result ≡ length self.now.cores }
     {
         self.cores.len()
     }
 
-    /// A core by its number.
-    pub(crate) fn core_at(&self, core: u32) -> &Core
-        requires { core < length (tables_state self.now).cores }
-        ensures { core_state result.now ≡ core_at (tables_state self.now) core }
+    /// Cause 1, for the number of a core.
+    pub(crate) fn known(&self, core: u32) -> Result<(), Refusal>
+        ensures answer { result ≡ (if nat_le (length self.now.cores) core then Err refusal.UnknownCore else Ok tt) }
+        ensures lane { OnOk result (core < 16) }
     {
-        &self.cores[core as usize]
+        if core as usize >= self.cores.len() {
+            return Err(Refusal::UnknownCore);
+        }
+        Ok(())
     }
 
-    /// The first checks of issuing: cause 1, then 2, then 3.
-    pub(crate) fn issue_check(
+    /// The core of a wave that may issue on an address. Checks: cause 1, then 2, then 3. (It takes the
+    /// memory's size: lending the memory beside the tables, for its own check, is not covered yet.)
+    pub(crate) fn issuer(
         &self,
         size: u32,
         core: u32,
         wave: u32,
         address: u32,
-    ) -> Result<(), Refusal>
-        ensures { result ≡ issue_check (tables_state self.now) size core wave address }
+    ) -> Result<&Core, Refusal>
+        ensures checks { MatchResult result (λ _. issue_check self.now size core wave address ≡ Ok tt) (λ e. issue_check self.now size core wave address ≡ Err e) }
+        ensures value { IfOk result (λ c. c.now ≡ core_at self.now core) }
     {
-        if core as usize >= self.count() || wave >= 48 {
+        let issuer = self.cores.get(core as usize).ok_or(Refusal::UnknownCore)?;
+        if wave >= 48 {
             return Err(Refusal::UnknownCore);
         }
         if address >= size {
             return Err(Refusal::UnknownAddress);
         }
-        if self.core_at(core).is_fenced(wave) {
+        if issuer.is_fenced(wave) {
             return Err(Refusal::FenceOpen);
         }
-        Ok(())
+        Ok(issuer)
     }
 
-    /// The value of a running copy, where no request on the address is pending.
-    pub(crate) fn hit(&self, core: u32, address: u32) -> Option<u32>
-        requires { core < length (tables_state self.now).cores }
-        ensures { result ≡ hit (core_at (tables_state self.now) core) self.now.clock address }
+    /// Whether 32 requests of a core are pending.
+    pub(crate) fn is_full(&self, core: u32) -> bool
+        ensures { result ≡ nat_le 32 (length (core_at self.now core).pending) }
     {
-        self.core_at(core).hit(address, self.clock)
+        self.cores.get(core as usize).is_some_and(Core::is_full)
     }
 
-    /// Cause 4: 32 requests are pending.
-    pub(crate) fn room_check(&self, core: u32) -> Result<(), Refusal>
-        requires { core < length (tables_state self.now).cores }
-        ensures { result ≡ room_check (tables_state self.now) core }
-    {
-        if self.core_at(core).is_full() {
-            return Err(Refusal::PendingFull);
-        }
-        Ok(())
-    }
-
-    /// Notes a request of a core; a store or atomic drops the copy of its address.
+    /// Notes a request of a core; a store or atomic drops the copy of its address. A core with 32
+    /// pending requests stays as it is.
     pub(crate) fn issue(&mut self, core: u32, request: Request)
-        requires { (core < length (tables_state self.old).cores) × (length (core_at (tables_state self.old) core).pending < 32) }
-        ensures { tables_state self.new ≡ with_core (tables_state self.old) core (issued (core_at (tables_state self.old) core) request) }
+        ensures { self.new ≡ with_core self.old core (cond (nat_le 32 (length (core_at self.old core).pending)) (core_at self.old core) (issued (core_at self.old core) request)) }
     {
-        self.cores[core as usize].issue(request);
+        if let Some(core) = self.cores.get_mut(core as usize) {
+            core.issue(request);
+        }
     }
 
     /// The oldest pending request of a core.
     pub(crate) fn oldest(&self, core: u32) -> Option<Request>
-        requires { core < length (tables_state self.now).cores }
-        ensures { result ≡ oldest (core_at (tables_state self.now) core).pending }
+        ensures { result ≡ oldest (core_at self.now core).pending }
     {
-        self.core_at(core).oldest()
+        self.cores.get(core as usize)?.oldest()
     }
 
     /// Takes the oldest pending request of a core, and does what the answer to it changes.
     pub(crate) fn hand(&mut self, core: u32, request: Request, answer: Answer)
-        requires { core < length (tables_state self.old).cores }
-        ensures { tables_state self.new ≡ handed_at (tables_state self.old) core request answer }
+        ensures { self.new ≡ handed_at self.old core request answer }
     {
-        let clock = self.clock;
-        self.cores[core as usize].take_and_hand(clock, request, answer);
+        let clock = self.clock.tick();
+        if let Some(core) = self.cores.get_mut(core as usize) {
+            core.take_and_hand(clock, request, answer);
+        }
+    }
+
+    /// A request's turn at the bank.
+    pub(crate) fn serve<M: Memory, P: LifetimePolicy>(
+        &mut self,
+        core: u32,
+        request: Request,
+        memory: &M,
+        policy: &mut P,
+    ) -> Result<Answer, Refusal>
+        ensures answer { result ≡ (turn_at self.old (P.LifetimePolicy.present policy.old) (read_answer (M.Memory.size memory.now) (M.Memory.cell memory.now) (address_of request)) core request).answer }
+        ensures after { self.new ≡ with_bank self.old (turn_at self.old (P.LifetimePolicy.present policy.old) (read_answer (M.Memory.size memory.now) (M.Memory.cell memory.now) (address_of request)) core request).bank }
+        ensures told { Told P.LifetimePolicy.heard policy.old (turn_at self.old (P.LifetimePolicy.present policy.old) (read_answer (M.Memory.size memory.now) (M.Memory.cell memory.now) (address_of request)) core request).events policy.new }
+    {
+        let (protocol, clock) = (self.protocol, self.clock);
+        self.bank
+            .serve(protocol, clock, core, request, memory, policy)
+    }
+
+    /// Takes the waiting mark of a core's lane away.
+    pub(crate) fn unmark(&mut self, core: u32)
+        ensures { self.new ≡ with_bank self.old (with_mark self.old.bank core None) }
+    {
+        self.bank.mark(core, None);
     }
 }

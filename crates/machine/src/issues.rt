@@ -1,12 +1,10 @@
 //! What a core issues.
-ghost use Rattle.std.specs.Prelude.{◌≡◌, ℕ, ◌<◌, length};
+ghost use Rattle.std.specs.Prelude.{◌≡◌, Ok};
 ghost use Rattle.lifetimes.specs.Told.{Told};
-ghost use Rattle.rules.specs.Outs.{core_at};
-ghost use Rattle.rules.specs.Issues.{sends, load_step, store_step};
-ghost use Rattle.machine.specs.View.{view, tables_state};
+ghost use Rattle.rules.specs.Issues.{write_by, load_step, store_step};
+ghost use Rattle.machine.specs.View.{view};
 
 use crate::tables::Machine;
-use calls::outcome::Loaded;
 use calls::refusal::Refusal;
 use lanes::net::LaneNet;
 use lifetimes::policy::LifetimePolicy;
@@ -15,37 +13,37 @@ use messages::answer::Answer;
 use messages::request::Request;
 
 impl<Q: LaneNet<Request>, R: LaneNet<Answer>, M: Memory, P: LifetimePolicy> Machine<Q, R, M, P> {
-    /// Puts a request on its core's lane and notes it.
+    /// Puts a request on its core's lane and notes it. Checks: 4, 5.
     fn send(&mut self, core: u32, request: Request) -> Result<(), Refusal>
-        requires { (core < length (tables_state self.old.tables).cores) × (length (core_at (tables_state self.old.tables) core).pending < 32) }
-        ensures answer { result ≡ (sends (view Q.LaneNet R.LaneNet M.Memory self.old) core request).answer }
-        ensures after { view Q.LaneNet R.LaneNet M.Memory self.new ≡ (sends (view Q.LaneNet R.LaneNet M.Memory self.old) core request).after }
-        ensures told { Told P.LifetimePolicy.heard self.old.policy (sends (view Q.LaneNet R.LaneNet M.Memory self.old) core request).events self.new.policy }
+        ensures answer { result ≡ (write_by (view Q.LaneNet R.LaneNet M.Memory self.old) core request (Ok tt)).answer }
+        ensures after { view Q.LaneNet R.LaneNet M.Memory self.new ≡ (write_by (view Q.LaneNet R.LaneNet M.Memory self.old) core request (Ok tt)).after }
+        ensures told { Told P.LifetimePolicy.heard self.old.policy (write_by (view Q.LaneNet R.LaneNet M.Memory self.old) core request (Ok tt)).events self.new.policy }
     {
-        match self.requests.put(core, request) {
-            Err(_) => Err(Refusal::LaneFull),
-            Ok(()) => {
-                self.tables.issue(core, request);
-                Ok(())
-            }
+        if self.tables.is_full(core) {
+            return Err(Refusal::PendingFull);
         }
+        self.requests
+            .put(core, request)
+            .map_err(|_| Refusal::LaneFull)?;
+        self.tables.issue(core, request);
+        Ok(())
     }
 
     /// A wave of a core loads a word. Checks: 1, 2, 3, the hit, 4, 5. A load hits exactly if the core
-    /// has a running copy and no pending request on the address; otherwise a request is put and noted.
-    pub fn load(&mut self, core: u32, wave: u32, address: u32) -> Result<Loaded, Refusal>
+    /// has a running copy and no pending request on the address, and answers its value; otherwise a
+    /// request is put and noted, and no value is answered.
+    pub fn load(&mut self, core: u32, wave: u32, address: u32) -> Result<Option<u32>, Refusal>
         ensures answer { result ≡ (load_step (view Q.LaneNet R.LaneNet M.Memory self.old) core wave address).answer }
         ensures after { view Q.LaneNet R.LaneNet M.Memory self.new ≡ (load_step (view Q.LaneNet R.LaneNet M.Memory self.old) core wave address).after }
         ensures told { Told P.LifetimePolicy.heard self.old.policy (load_step (view Q.LaneNet R.LaneNet M.Memory self.old) core wave address).events self.new.policy }
     {
         let size = self.memory.size();
-        self.tables.issue_check(size, core, wave, address)?;
-        if let Some(value) = self.tables.hit(core, address) {
-            return Ok(Loaded::Hit(value));
+        let issuer = self.tables.issuer(size, core, wave, address)?;
+        if let Some(value) = issuer.hit(address, self.tables.clock.tick()) {
+            return Ok(Some(value));
         }
-        self.tables.room_check(core)?;
         self.send(core, Request::Load { wave, address })?;
-        Ok(Loaded::Sent)
+        Ok(None)
     }
 
     /// A wave of a core stores a word. Checks: 1, 2, 3, 4, 5. The copy of the address is dropped, and
@@ -56,8 +54,7 @@ impl<Q: LaneNet<Request>, R: LaneNet<Answer>, M: Memory, P: LifetimePolicy> Mach
         ensures told { Told P.LifetimePolicy.heard self.old.policy (store_step (view Q.LaneNet R.LaneNet M.Memory self.old) core wave address value).events self.new.policy }
     {
         let size = self.memory.size();
-        self.tables.issue_check(size, core, wave, address)?;
-        self.tables.room_check(core)?;
+        self.tables.issuer(size, core, wave, address)?;
         self.send(
             core,
             Request::Store {

@@ -1,7 +1,7 @@
 //! Serving a core's oldest request, and delivering its oldest answer.
-ghost use Rattle.std.specs.Prelude.{◌≡◌, ℕ, ◌<◌, vec_len, MatchOption};
+ghost use Rattle.std.specs.Prelude.{◌≡◌};
 ghost use Rattle.lifetimes.specs.Told.{Told};
-ghost use Rattle.rules.specs.Serves.{serve_step, serve_place, answer_by};
+ghost use Rattle.rules.specs.Serves.{serve_step, turn_ended, turn_of};
 ghost use Rattle.rules.specs.Delivers.{deliver_step};
 ghost use Rattle.machine.specs.View.{view};
 
@@ -11,47 +11,23 @@ use calls::refusal::Refusal;
 use cores::core_calls::delivery;
 use lanes::net::LaneNet;
 use lifetimes::policy::LifetimePolicy;
-use memories::memory::{Fault, Memory};
+use memories::memory::Memory;
 use messages::answer::Answer;
 use messages::request::Request;
 
-/// The answer to a request: a fault travels on as one.
-fn answer_by(request: Request, reply: Result<Answer, Fault>) -> Result<Answer, Refusal>
-    ensures { result ≡ answer_by request reply }
-{
-    match reply {
-        Ok(answer) => Ok(answer),
-        Err(Fault::Unreadable { block }) => Ok(Answer::Fault {
-            wave: request.wave(),
-            address: request.address(),
-            block,
-        }),
-        Err(Fault::UnknownAddress) => Err(Refusal::UnknownAddress),
-    }
-}
-
 impl<Q: LaneNet<Request>, R: LaneNet<Answer>, M: Memory, P: LifetimePolicy> Machine<Q, R, M, P> {
-    /// Serves a request that was admitted.
-    fn serve_place(
-        &mut self,
-        core: u32,
-        request: Request,
-        place: Option<usize>,
-    ) -> Result<(), Refusal>
-        requires { MatchOption place (vec_len self.old.tables.bank.lines < 256) (λ i. i < vec_len self.old.tables.bank.lines) }
-        ensures answer { result ≡ (serve_place (view Q.LaneNet R.LaneNet M.Memory self.old) (P.LifetimePolicy.present self.old.policy) core request place).answer }
-        ensures after { view Q.LaneNet R.LaneNet M.Memory self.new ≡ (serve_place (view Q.LaneNet R.LaneNet M.Memory self.old) (P.LifetimePolicy.present self.old.policy) core request place).after }
-        ensures told { Told P.LifetimePolicy.heard self.old.policy (serve_place (view Q.LaneNet R.LaneNet M.Memory self.old) (P.LifetimePolicy.present self.old.policy) core request place).events self.new.policy }
+    /// A request's turn at the bank: its answer goes to its core's lane.
+    fn turn(&mut self, core: u32, request: Request) -> Result<(), Refusal>
+        ensures answer { result ≡ (turn_ended (view Q.LaneNet R.LaneNet M.Memory self.old) core (turn_of (view Q.LaneNet R.LaneNet M.Memory self.old) (P.LifetimePolicy.present self.old.policy) core request)).answer }
+        ensures after { view Q.LaneNet R.LaneNet M.Memory self.new ≡ (turn_ended (view Q.LaneNet R.LaneNet M.Memory self.old) core (turn_of (view Q.LaneNet R.LaneNet M.Memory self.old) (P.LifetimePolicy.present self.old.policy) core request)).after }
+        ensures told { Told P.LifetimePolicy.heard self.old.policy (turn_ended (view Q.LaneNet R.LaneNet M.Memory self.old) core (turn_of (view Q.LaneNet R.LaneNet M.Memory self.old) (P.LifetimePolicy.present self.old.policy) core request)).events self.new.policy }
     {
-        let clock = self.tables.clock;
-        let reply = self
+        let answer = self
             .tables
-            .bank
-            .serve(&self.memory, &mut self.policy, place, clock, request);
-        let answer = answer_by(request, reply)?;
+            .serve(core, request, &self.memory, &mut self.policy)?;
         let _ = self.requests.take(core);
         let _ = self.answers.put(core, answer);
-        self.tables.bank.mark(core, None);
+        self.tables.unmark(core);
         Ok(())
     }
 
@@ -64,24 +40,13 @@ impl<Q: LaneNet<Request>, R: LaneNet<Answer>, M: Memory, P: LifetimePolicy> Mach
         ensures after { view Q.LaneNet R.LaneNet M.Memory self.new ≡ (serve_step (view Q.LaneNet R.LaneNet M.Memory self.old) (P.LifetimePolicy.present self.old.policy) core).after }
         ensures told { Told P.LifetimePolicy.heard self.old.policy (serve_step (view Q.LaneNet R.LaneNet M.Memory self.old) (P.LifetimePolicy.present self.old.policy) core).events self.new.policy }
     {
-        if core as usize >= self.tables.count() {
-            return Err(Refusal::UnknownCore);
-        }
-        let Some(request) = self.requests.oldest(core) else {
-            return Err(Refusal::NothingWaits);
-        };
-        if request.address() >= self.memory.size() {
-            return Err(Refusal::UnknownAddress);
-        }
-        if self.answers.count(core) >= self.answers.depth() {
-            return Err(Refusal::LaneFull);
-        }
-        let clock = self.tables.clock;
-        let place = self
-            .tables
-            .bank
-            .admit(self.tables.protocol, clock, core, request)?;
-        self.serve_place(core, request, place)
+        self.tables.known(core)?;
+        let request = self.requests.oldest(core).ok_or(Refusal::NothingWaits)?;
+        self.memory
+            .check(request.address())
+            .map_err(|_| Refusal::UnknownAddress)?;
+        self.answers.room(core).map_err(|_| Refusal::LaneFull)?;
+        self.turn(core, request)
     }
 
     /// A core takes its oldest answer and its oldest pending request. Checks: 1, then 6 without one of
@@ -92,15 +57,9 @@ impl<Q: LaneNet<Request>, R: LaneNet<Answer>, M: Memory, P: LifetimePolicy> Mach
         ensures after { view Q.LaneNet R.LaneNet M.Memory self.new ≡ (deliver_step (view Q.LaneNet R.LaneNet M.Memory self.old) core).after }
         ensures told { Told P.LifetimePolicy.heard self.old.policy (deliver_step (view Q.LaneNet R.LaneNet M.Memory self.old) core).events self.new.policy }
     {
-        if core as usize >= self.tables.count() {
-            return Err(Refusal::UnknownCore);
-        }
-        let Some(answer) = self.answers.oldest(core) else {
-            return Err(Refusal::NothingWaits);
-        };
-        let Some(request) = self.tables.oldest(core) else {
-            return Err(Refusal::NothingWaits);
-        };
+        self.tables.known(core)?;
+        let answer = self.answers.oldest(core).ok_or(Refusal::NothingWaits)?;
+        let request = self.tables.oldest(core).ok_or(Refusal::NothingWaits)?;
         let _ = self.answers.take(core);
         self.tables.hand(core, request, answer);
         Ok(delivery(request, answer))
