@@ -1,3 +1,4 @@
 pub mod Boards
+pub mod Lines
 pub mod Longer
 pub mod Steady

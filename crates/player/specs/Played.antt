@@ -1,8 +1,9 @@
 -- What playing the lines of a script writes, at a lifetime that stays.
-use Rattle.std.specs.Prelude.{ℕ, ◌+◌, List, [], ◌∷◌, ◌++◌, Some, None, Option}
+use Rattle.std.specs.Prelude.{ℕ, ◌+◌, List, [], ◌∷◌, ◌++◌, Some, None, Ok, Err, Option, Result}
 use Rattle.calls.specs.declared.call.Call.{Call}
 use Rattle.calls.specs.declared.outcome.Outcome.{Outcome}
 use Rattle.calls.specs.declared.outcome.Outcome.TheVariants.{Refused}
+use Rattle.calls.specs.declared.refusal.Refusal.{Refusal}
 use Rattle.calls.specs.declared.refusal.Refusal.TheVariants.{NotACall}
 use Rattle.rules.specs.State.{State}
 use Rattle.rules.specs.Makes.{make_step}
@@ -12,6 +13,11 @@ use Rattle.script.specs.Answers.{answer_line}
 abbrev pub line_answer : State → ℕ → Option Call → Outcome
 line_answer s life None = Refused NotACall
 line_answer s life (Some c) = (make_step s life c).answer
+
+-- what a line as it was read comes to: its refusal, or what its call comes to
+abbrev pub read_answer : State → ℕ → Result Call Refusal → Outcome
+read_answer s life (Err e) = Refused e
+read_answer s life (Ok c) = line_answer s life (Some c)
 
 -- the state after a line
 abbrev pub line_after : State → ℕ → Option Call → State

@@ -1,9 +1,10 @@
 //! A script played on a machine with a fixed lifetime.
 ghost use Rattle.std.specs.Prelude.{◌≡◌, ℕ, [], ◌++◌, take, string_bytes, OnOk};
+ghost use Rattle.std.specs.Result.{result_ok};
 ghost use Rattle.machine.specs.View.{view};
 ghost use Rattle.script.specs.Answers.{answer_line};
 ghost use Rattle.script.specs.Lines.{script};
-ghost use Rattle.player.specs.Played.{line_answer, line_after, played};
+ghost use Rattle.player.specs.Played.{line_after, played, read_answer};
 
 use calls::call::Call;
 use calls::outcome::Outcome;
@@ -22,27 +23,27 @@ use std::alloc::AllocError;
 /// Makes the call of a line; a line that is no call is refused.
 fn play_line<Q: LaneNet<Request>, R: LaneNet<Answer>, M: Memory>(
     machine: &mut Machine<Q, R, M, Fixed>,
-    line: Option<Call>,
+    line: Result<Call, Refusal>,
 ) -> Outcome
-    ensures answer { result ≡ line_answer (view Q.LaneNet R.LaneNet M.Memory machine.old) machine.old.policy.lifetime line }
-    ensures after { view Q.LaneNet R.LaneNet M.Memory machine.new ≡ line_after (view Q.LaneNet R.LaneNet M.Memory machine.old) machine.old.policy.lifetime line }
+    ensures answer { result ≡ read_answer (view Q.LaneNet R.LaneNet M.Memory machine.old) machine.old.policy.lifetime line }
+    ensures after { view Q.LaneNet R.LaneNet M.Memory machine.new ≡ line_after (view Q.LaneNet R.LaneNet M.Memory machine.old) machine.old.policy.lifetime (result_ok line) }
     ensures same { machine.new.policy.lifetime ≡ machine.old.policy.lifetime }
 {
     match line {
-        Some(call) => make(machine, call),
-        None => Outcome::Refused(Refusal::NotACall),
+        Ok(call) => make(machine, call),
+        Err(refusal) => Outcome::Refused(refusal),
     }
 }
 
 /// Plays a line, and adds the line that tells what it came to.
 fn turn<Q: LaneNet<Request>, R: LaneNet<Answer>, M: Memory>(
     machine: &mut Machine<Q, R, M, Fixed>,
-    line: Option<Call>,
+    line: Result<Call, Refusal>,
     number: usize,
     out: &mut String,
 ) -> Result<(), AllocError>
-    ensures bytes { OnOk result (string_bytes out.new ≡ string_bytes out.old ++ answer_line number (line_answer (view Q.LaneNet R.LaneNet M.Memory machine.old) machine.old.policy.lifetime line)) }
-    ensures after { view Q.LaneNet R.LaneNet M.Memory machine.new ≡ line_after (view Q.LaneNet R.LaneNet M.Memory machine.old) machine.old.policy.lifetime line }
+    ensures bytes { OnOk result (string_bytes out.new ≡ string_bytes out.old ++ answer_line number (read_answer (view Q.LaneNet R.LaneNet M.Memory machine.old) machine.old.policy.lifetime line)) }
+    ensures after { view Q.LaneNet R.LaneNet M.Memory machine.new ≡ line_after (view Q.LaneNet R.LaneNet M.Memory machine.old) machine.old.policy.lifetime (result_ok line) }
     ensures same { machine.new.policy.lifetime ≡ machine.old.policy.lifetime }
 {
     let outcome = play_line(machine, line);
@@ -57,10 +58,7 @@ pub fn play<Q: LaneNet<Request>, R: LaneNet<Answer>, M: Memory>(
 ) -> Result<(), AllocError>
     ensures { OnOk result (string_bytes out.new ≡ string_bytes out.old ++ played (view Q.LaneNet R.LaneNet M.Memory machine.old) machine.old.policy.lifetime 0 (script (take 65536 input.now))) }
 {
-    let mut reader = Reader::new(input);
-    let mut number: usize = 0;
-    while let Some(line) = reader.line() {
-        number += 1;
+    for (number, line) in (1..).zip(Reader::new(input)) {
         turn(machine, line, number, out)?;
     }
     Ok(())

@@ -1,42 +1,18 @@
 -- A script that was written from calls is read back.
-use Rattle.std.proofs.Common.{◌≡◌, ℕ, suc, ◌+◌, ◌-◌, ◌*◌, ◌/◌, ◌%◌, ◌^◌, ◌<◌, ◌≤◌, true, false, cond, ◌&&◌, leb, List, [], ◌∷◌, ◌++◌, map, length, get_or, take, Some, None, decimal, Option, refl, ap, ◌∙◌, append-nil, arith, lit<, length-take}
+use Rattle.std.proofs.Common.{◌≡◌, ℕ, ◌^◌, ◌<◌, ◌≤◌, List, [], ◌∷◌, ◌++◌, map, length, take, Some, decimal, Option, refl, ap, ◌∙◌, append-nil, arith, lit<, length-take}
 use Rattle.calls.specs.declared.call.Call.{Call}
 use Rattle.calls.specs.declared.call.Call.TheVariants.{Start, Load, Store, Serve, Deliver, Tick}
 use Rattle.calls.specs.declared.call.Protocol.{Protocol}
 use Rattle.calls.specs.declared.call.Protocol.TheVariants.{Strong, Weak}
-use Rattle.std.proofs.lemmas.Fmt.{decimal_by_steps, decimal_nonempty, length-decimal-le, digits_decimal}
+use Rattle.std.proofs.lemmas.Fmt.{digits_decimal}
 use Rattle.std.proofs.lemmas.List.{take_all}
-use Rattle.std.proofs.lemmas.Str.Parse.{numerals_by_value, tells_by_index}
-use Rattle.std.proofs.lemmas.Bool.{le-leb, and_from, cond-true, eq-eqb, ne_eqb}
+use Rattle.std.proofs.lemmas.Bool.{eq-eqb, ne_eqb}
 use Rattle.std.specs.List.{AllByRecursion}
-use Rattle.script.specs.Fields.{split, onto, bind, first, others, digits, word, number}
+use Rattle.script.specs.Fields.{split, onto, bind, first, others}
 use Rattle.script.specs.Lines.{letter_of, start_of, call_of, parse_line, script}
 use Rattle.script.specs.Written.{Words, sign, letter, fields, spaced, written, lines, Back, AllBack}
-use Rattle.script.proofs.Numbers.{number_within, word_small}
+use Rattle.script.proofs.Numbers.{Digits, test, model, number_decimal}
 use Rattle.script.proofs.Splits.{script_more, script_length}
-
-digits_append : (n : ℕ) (xs ys : List ℕ) → digits n (xs ++ ys) ≡ bind (digits n xs) (λ m. digits m ys)
-digits_append n [] ys = refl
-digits_append n (x ∷ xs) ys =
-    elim (leb 48 x && leb x 57) as (λ t. cond t (digits (n * 10 + (x - 48)) (xs ++ ys)) None ≡ bind (cond t (digits (n * 10 + (x - 48)) xs) None) (λ m. digits m ys))
-    [ true ↦ digits_append (n * 10 + (x - 48)) xs ys | false ↦ refl ]
-
-digit : (n d : ℕ) → d < 10 → digits n ((48 + d) ∷ []) ≡ Some (n * 10 + d)
-digit n d h =
-    let e : n * 10 + (48 + d - 48) ≡ n * 10 + d = omega arith in
-    cond-true _ _ _ (and_from _ _ (le-leb 48 (48 + d) (omega arith)) (le-leb (48 + d) 57 (omega arith))) ∙ ap (λ m. Some m) e
-
-digits_decimal_all : (n : ℕ) → n < 2 ^ 64 → digits 0 (decimal n) ≡ Some n
-digits_decimal_all = decimal_by_steps (λ n ds. digits 0 ds ≡ Some n)
-    (λ n h. digit 0 n h ∙ ap (λ m. Some m) (omega arith))
-    (λ n ds h e. digits_append 0 ds ((48 + n % 10) ∷ []) ∙ rw e (digit (n / 10) (n % 10) (omega arith) ∙ ap (λ m. Some m) (omega arith)))
-
--- a number below 2 ^ 32 is read back
-number_decimal : (n : ℕ) → n < 2 ^ 32 → number (decimal n) ≡ Some n
-number_decimal n h =
-    let low : 1 ≤ length (decimal n) = decimal_nonempty n (omega arith) in
-    let high : length (decimal n) ≤ 10 = length-decimal-le 10 n (lit< tt) (omega arith) (omega arith) in
-    number_within (decimal n) low high ∙ ap (λ o. bind o word) (digits_decimal_all n (omega arith)) ∙ word_small n (omega arith)
 
 -- byte b does not stand in the list
 abbrev Without : ℕ → List ℕ → Type 0
@@ -46,13 +22,14 @@ without_append : (b : ℕ) (xs ys : List ℕ) → Without b xs → Without b ys 
 without_append b [] ys h k = k
 without_append b (x ∷ xs) ys h k = (h.0, without_append b xs ys h.1 k)
 
-without_places : (b : ℕ) (xs : List ℕ) → ((i : ℕ) → i < length xs → b < get_or xs i 0) → Without b xs
-without_places b [] h = tt
-without_places b (x ∷ xs) h = (λ e. omega (arith, h 0 (omega arith)), without_places b xs (λ i l. h (suc i) (omega arith)))
+without_digits : (b : ℕ) (xs : List ℕ) → b < 48 → Digits xs → Without b xs
+without_digits b [] low h = tt
+without_digits b (x ∷ xs) low h =
+    let parts = test.parts x xs h in
+    (λ e. omega (arith, parts.0.0), without_digits b xs low parts.1)
 
 without_decimal : (b n : ℕ) → b < 48 → n < 2 ^ 32 → Without b (decimal n)
-without_decimal b n low h =
-    without_places b (decimal n) (λ i l. omega (arith, digits_decimal (numerals_by_value _ tells_by_index) n (omega arith) i l))
+without_decimal b n low h = without_digits b (decimal n) low (digits_decimal model n (omega arith))
 
 -- a part before byte b
 split_part : (b : ℕ) (f ys : List ℕ) → Without b f → split b (f ++ (b ∷ ys)) ≡ f ∷ split b ys

@@ -1,10 +1,11 @@
 -- The calls that the lines of a script write.
-use Rattle.std.specs.Prelude.{ℕ, cond, List, [], ◌∷◌, Some, None, Option, ◌==◌}
+use Rattle.std.specs.Prelude.{ℕ, cond, List, [], ◌∷◌, map, Some, None, Option, Result, ◌==◌}
 use Rattle.calls.specs.declared.call.Call.{Call}
 use Rattle.calls.specs.declared.call.Call.TheVariants.{Start, Load, Store, Serve, Deliver, Tick}
-use Rattle.calls.specs.declared.call.Protocol.{Protocol}
-use Rattle.calls.specs.declared.call.Protocol.TheVariants.{Strong, Weak}
-use Rattle.std.specs.Option.{option_map}
+use Rattle.calls.specs.Letters.{protocol_of}
+use Rattle.calls.specs.declared.refusal.Refusal.{Refusal}
+use Rattle.calls.specs.declared.refusal.Refusal.TheVariants.{NotACall}
+use Rattle.std.specs.Option.{option_map, ok_or}
 use Rattle.script.specs.Fields.{split, bind, first, others, next, end, one, three, four}
 
 -- the letter that a field is: a field of one byte
@@ -12,10 +13,6 @@ abbrev pub letter_of : List ℕ → Option ℕ
 letter_of [] = None
 letter_of (b ∷ []) = Some b
 letter_of (b ∷ c ∷ bs) = None
-
--- S: TC-Strong, W: TC-Weak
-abbrev pub protocol_of : ℕ → Option Protocol
-protocol_of l = cond (l == 83) (Some Strong) (cond (l == 87) (Some Weak) None)
 
 -- N cores P
 abbrev pub start_of : List (List ℕ) → Option Call
@@ -67,7 +64,6 @@ calls_of (line ∷ after ∷ more) = parse_line line ∷ calls_of (after ∷ mor
 abbrev pub script : List ℕ → List (Option Call)
 script bytes = calls_of (split 10 bytes)
 
--- the first, if there is one
-abbrev pub front : {A : Type 0} → List A → Option A
-front [] = None
-front (x ∷ xs) = Some x
+-- the same as a reader gives them: a line that is no call is refused (16)
+abbrev pub script_calls : List ℕ → List (Result Call Refusal)
+script_calls bytes = map (λ l. ok_or l NotACall) (script bytes)

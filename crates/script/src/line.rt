@@ -1,76 +1,53 @@
 //! The call that a line writes.
 ghost use Rattle.std.specs.Prelude.{◌≡◌};
-ghost use Rattle.std.specs.Option.{option_map};
-ghost use Rattle.script.specs.Fields.{left};
-ghost use Rattle.script.specs.Lines.{protocol_of, start_of, call_of, parse_line};
+ghost use Rattle.std.specs.Option.{ok_or};
+ghost use Rattle.std.specs.Result.{result_ok};
+ghost use Rattle.calls.specs.declared.refusal.Refusal.TheVariants.{NotACall};
+ghost use Rattle.script.specs.Fields.{bind, first, others};
+ghost use Rattle.script.specs.Lines.{letter_of, call_of, parse_line};
 ghost use Rattle.script.specs.Written.{Back};
 
 use crate::fields::Fields;
 use calls::call::{Call, Protocol};
+use calls::refusal::Refusal;
 
 /// The call that a line writes, if it writes one.
-pub fn parse(line: &[u8]) -> Option<Call>
-    ensures value { result ≡ parse_line line.now }
-    ensures back { Back line.now result }
+pub fn parse(line: &[u8]) -> Result<Call, Refusal>
+    ensures value { result ≡ ok_or (parse_line line.now) NotACall }
+    ensures back { Back line.now (result_ok result) }
 {
-    let mut fields = Fields::new(line);
-    let letter = fields.letter()?;
-    call(letter, &mut fields)
+    call(Fields::new(line)).ok_or(Refusal::NotACall)
 }
 
-/// The call of a letter with its fields.
-fn call(letter: u8, fields: &mut Fields<'_>) -> Option<Call>
-    ensures { result ≡ call_of letter (left 32 (option_map (λ x. x.now) fields.old.rest)) }
+/// The call that the fields of a line write: its letter, which is the script's format, and what the
+/// letter asks for.
+fn call(mut fields: Fields<'_>) -> Option<Call>
+    ensures { result ≡ bind (letter_of (first fields.entry)) (λ l. call_of l (others fields.entry)) }
 {
-    match letter {
-        b'N' => start(fields),
-        b'L' => {
-            let (core, wave, address) = fields.three()?;
-            Some(Call::Load {
-                core,
-                wave,
-                address,
-            })
-        }
-        b'S' => {
-            let (core, wave, address, value) = fields.four()?;
-            Some(Call::Store {
-                core,
-                wave,
-                address,
-                value,
-            })
-        }
-        b'V' => {
-            let core = fields.one()?;
-            Some(Call::Serve { core })
-        }
-        b'D' => {
-            let core = fields.one()?;
-            Some(Call::Deliver { core })
-        }
-        b'T' => fields.end(Call::Tick),
-        _ => None,
-    }
-}
-
-/// N cores P.
-fn start(fields: &mut Fields<'_>) -> Option<Call>
-    ensures { result ≡ start_of (left 32 (option_map (λ x. x.now) fields.old.rest)) }
-{
-    let cores = fields.number()?;
-    let letter = fields.letter()?;
-    let protocol = protocol(letter)?;
-    fields.end(Call::Start { cores, protocol })
-}
-
-/// The protocol of a letter.
-fn protocol(letter: u8) -> Option<Protocol>
-    ensures { result ≡ protocol_of letter }
-{
-    match letter {
-        b'S' => Some(Protocol::Strong),
-        b'W' => Some(Protocol::Weak),
-        _ => None,
-    }
+    let call = match fields.letter()? {
+        b'N' => Call::Start {
+            cores: fields.number()?,
+            protocol: Protocol::try_from(fields.letter()?).ok()?,
+        },
+        b'L' => Call::Load {
+            core: fields.number()?,
+            wave: fields.number()?,
+            address: fields.number()?,
+        },
+        b'S' => Call::Store {
+            core: fields.number()?,
+            wave: fields.number()?,
+            address: fields.number()?,
+            value: fields.number()?,
+        },
+        b'V' => Call::Serve {
+            core: fields.number()?,
+        },
+        b'D' => Call::Deliver {
+            core: fields.number()?,
+        },
+        b'T' => Call::Tick,
+        _ => return None,
+    };
+    fields.end(call)
 }

@@ -1,50 +1,58 @@
 //! A script, line by line.
-ghost use Rattle.std.specs.Prelude.{◌≡◌, ◌+◌, ◌≤◌, [], ◌∷◌, length, take, MatchOption};
-ghost use Rattle.std.specs.Option.{option_to_list};
-ghost use Rattle.script.specs.Fields.{others};
-ghost use Rattle.script.specs.Lines.{script, front};
+ghost use Rattle.std.specs.Prelude.{◌≡◌, ◌≤◌, length, take};
+ghost use Rattle.std.specs.Iterator.{YieldsFirst, item_count};
+ghost use Rattle.script.specs.Lines.{script, script_calls};
 ghost use Rattle.script.specs.Written.{AllBack};
 
 use crate::bytes::{cut, limited};
 use crate::line::parse;
 use calls::call::Call;
+use calls::refusal::Refusal;
+use std::marker::Model;
 
-/// The bytes of a script that are still to be read.
+/// The bytes of a script that are still to be read. Its items are the lines: the call that a line
+/// writes, or the refusal of one that is no call.
 #[derive(Drop)]
 pub struct Reader<'a> {
     rest: &'a [u8],
 }
 
+impl<'a> Model for Reader<'a> {
+    ghost use Rattle.std.specs.Prelude.{ℕ, List};
+
+    ghost Value = { List ℕ };
+
+    ghost view = { λ reader. reader.rest.now };
+}
+
 impl<'a> Reader<'a> {
     /// Reads the first 65,536 bytes of an input.
     pub fn new(input: &'a [u8]) -> Reader<'a>
-        ensures value { result.rest.now ≡ take 65536 input.now }
-        ensures few { length (script result.rest.now) ≤ 65536 }
-        ensures back { AllBack input.now result.rest.now }
+        ensures value { result ≡ take 65536 input.now }
+        ensures few { length (script result) ≤ 65536 }
+        ensures back { AllBack input.now result }
     {
         Reader {
             rest: limited(input),
         }
     }
+}
 
-    /// The next line: the call that it writes, or none where it is no call. Nothing, where no line
-    /// is left.
-    pub fn line(&mut self) -> Option<Option<Call>>
-        ensures value { result ≡ front (script self.old.rest.now) }
-        ensures after { script self.new.rest.now ≡ others (script self.old.rest.now) }
-        ensures cases { MatchOption result (script self.old.rest.now ≡ []) (λ l. script self.old.rest.now ≡ l ∷ script self.new.rest.now) }
-        ensures len { length (script self.new.rest.now) + length (option_to_list result) ≡ length (script self.old.rest.now) }
-    {
+impl<'a> Iterator for Reader<'a> {
+    type Item = Result<Call, Refusal>;
+
+    ghost next_gives = { YieldsFirst script_calls };
+
+    ghost remaining = { item_count script_calls };
+
+    #[tactic(auto, using(crate::proofs::Splits::calls_more))]
+    fn next(&mut self) -> Option<Result<Call, Refusal>> {
         let (line, rest) = cut(self.rest, b'\n');
+        self.rest = rest.unwrap_or(&[]);
         match rest {
-            Some(rest) => {
-                self.rest = rest;
-                Some(parse(line))
-            }
-            None => {
-                self.rest = &[];
-                if line.is_empty() { None } else { Some(None) }
-            }
+            Some(_) => Some(parse(line)),
+            None if line.is_empty() => None,
+            None => Some(Err(Refusal::NotACall)),
         }
     }
 }

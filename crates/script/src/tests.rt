@@ -35,9 +35,9 @@ fn calls(rt: HostRuntime) {
         Call::Deliver { core: 3 },
         Call::Tick,
     ] {
-        assert_eq!(rt; reader.line(), Some(Some(call)));
+        assert_eq!(rt; reader.next(), Some(Ok(call)));
     }
-    assert_eq!(rt; reader.line(), None);
+    assert_eq!(rt; reader.next(), None);
 }
 
 #[test]
@@ -46,10 +46,10 @@ fn no_calls(rt: HostRuntime) {
         b"V 4294967296\nV 00000000007\nV \nV  3\nV 3 \n V 3\nV\t3\nT\r\nT\0\nt\nV\nV 3 3\nL 0 1\nN 2 X\n\nT",
     );
     for _ in 0..16 {
-        assert_eq!(rt; reader.line(), Some(None));
+        assert_eq!(rt; reader.next(), Some(Err(Refusal::NotACall)));
     }
-    assert_eq!(rt; reader.line(), None);
-    assert_eq!(rt; Reader::new(b"").line(), None);
+    assert_eq!(rt; reader.next(), None);
+    assert_eq!(rt; Reader::new(b"").next(), None);
 }
 
 #[test]
@@ -57,17 +57,16 @@ fn longest(rt: HostRuntime) {
     let input = [b'\n'; 65537];
     let mut reader = Reader::new(&input);
     for _ in 0..65536 {
-        assert_eq!(rt; reader.line(), Some(None));
+        assert_eq!(rt; reader.next(), Some(Err(Refusal::NotACall)));
     }
-    assert_eq!(rt; reader.line(), None);
+    assert_eq!(rt; reader.next(), None);
 }
 
 #[test]
 fn answers(rt: HostRuntime) -> Result<(), Fail> {
     let (wave, address, value, block) = (9, 5, 7, 1);
     let mut out = String::new(rt.alloc());
-    let mut number = 0usize;
-    for outcome in [
+    let outcomes = [
         Outcome::Started,
         Outcome::Sent,
         Outcome::Served,
@@ -91,8 +90,8 @@ fn answers(rt: HostRuntime) -> Result<(), Fail> {
         }),
         Outcome::Ticked(4294967295),
         Outcome::Refused(Refusal::Unreadable { block, address }),
-    ] {
-        number = number.wrapping_add(1);
+    ];
+    for (number, outcome) in (1..).zip(outcomes) {
         write_line(&mut out, number, outcome)?;
     }
     assert_eq!(rt;

@@ -1,21 +1,37 @@
-use Rattle.std.proofs.Common.{◌≡◌, List, ◌∷◌, length, string_bytes, Option, ap, ◌∙◌, arith}
-use Rattle.calls.specs.declared.call.Call.{Call}
+use Rattle.std.proofs.Common.{◌≡◌, ◌+◌, ◌∷◌, [], length, string_bytes, ap, ◌∙◌, inl, inr, length-append, arith}
+use Rattle.std.specs.Iterator.Adapters.{zip_second}
+use Rattle.std.specs.Result.{result_ok}
 use Rattle.machine.specs.View.{view}
 use Rattle.script.specs.Lines.{script}
-use Rattle.player.proofs.Longer.{one_more}
+use Rattle.player.specs.Played.{line_answer, read_answer}
+use Rattle.player.proofs.Lines.{as_read, next_line, no_line, only_no_call}
+use Rattle.player.proofs.Longer.{one_more, all_played}
 use Rattle.player.proofs.play.play.Goals as goal
 
-pub loop-line-preserved : goal.loop-line-preserved
-loop-line-preserved g c =
+pub loop-number-preserved : goal.loop-number-preserved
+loop-number-preserved g c =
     let t = c.in_ok-turn.ensures in
-    let here = c.loop-line.reader.rest.now in
-    let next = c.line.new.self.rest.now in
-    let e : script here ≡ c.in-Some.line ∷ script next = c.in-Some.ensures.cases in
-    let n = ap {A = List (Option Call)} length e in (
-      omega (arith, n, c.loop-line.invariant.0),
-      t.same ∙ c.loop-line.invariant.1,
-      one_more (string_bytes c.loop-line.out) (string_bytes c.turn.new.out)
-          (view g.Q.LaneNet g.R.LaneNet g.M.Memory c.loop-line.machine) (view g.Q.LaneNet g.R.LaneNet g.M.Memory c.turn.new.machine)
-          c.loop-line.machine.policy.lifetime c.turn.new.machine.policy.lifetime c.loop-line.number c.in-Some.line
-          (script here) (script next) _ c.loop-line.invariant.2 e t.bytes t.after t.same,
+    let n = length c.loop-number.yielded in
+    let here = zip_second c.loop-number.number-iterator in
+    let next = zip_second c.next.new.self in
+    let line : script here ≡ result_ok c.in-Some.line ∷ script next = next_line here next c.in-Some.line c.in-Some.ensures.steps.1 in
+    let number : c.in-Some.number ≡ n + 1 = c.in-Some.ensures.steps.0.0 ∙ c.loop-number.invariant.0 in
+    let s = view g.Q.LaneNet g.R.LaneNet g.M.Memory c.loop-number.machine in
+    let life = c.loop-number.machine.policy.lifetime in
+    let read : read_answer s life c.in-Some.line ≡ line_answer s life (result_ok c.in-Some.line) =
+    as_read s life c.in-Some.line (only_no_call here next c.in-Some.line c.in-Some.ensures.steps.1) in
+    rw (length-append c.loop-number.yielded ((c.in-Some.number, c.in-Some.line) ∷ [])) (
+      c.in-Some.ensures.steps.0.1 ∙ ap (λ k. k + 1) number,
+      omega (arith, ap length line, c.loop-number.invariant.1),
+      t.same ∙ c.loop-number.invariant.2,
+      one_more (string_bytes c.loop-number.out) (string_bytes c.turn.new.out)
+          s (view g.Q.LaneNet g.R.LaneNet g.M.Memory c.turn.new.machine) life c.turn.new.machine.policy.lifetime n (result_ok c.in-Some.line)
+          (script here) (script next) _ c.loop-number.invariant.3 line (rw (number, read) at t.bytes) t.after t.same,
     )
+
+pub returns : goal.returns
+returns g c =
+    elim c.in-None.ensures.steps [
+      | inl last ↦ absurd (omega (arith, last.1.0, c.loop-number.invariant.0, c.loop-number.invariant.1))
+      | inr end ↦ all_played _ _ _ _ _ _ c.loop-number.invariant.3 (no_line (zip_second c.loop-number.number-iterator) end.1.0)
+    ]

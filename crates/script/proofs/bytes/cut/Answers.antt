@@ -1,13 +1,9 @@
-use Rattle.std.proofs.Common.{◌+◌, add-one, arith}
-use native.Mathlib.Nat.{sub-zero}
-use Rattle.std.proofs.lemmas.List.{take_rest}
-use Rattle.script.proofs.Splits.{split_none, split_first}
+use Rattle.std.proofs.Common.{◌≡◌, rules, tests}
+use Rattle.std.proofs.lemmas.Iterator.{IsFirst-from_position, YieldsList-from_slice}
+use Rattle.script.proofs.Splits.{split_at}
 use Rattle.script.proofs.bytes.cut.Goals as goal
 
-pub returns-then-x-b : goal.returns-then-x-b
-returns-then-x-b c =
-    rw (take_rest c.args.bytes.now (c.loop-i.i + 1), sub-zero c.loop-i.i, add-one c.loop-i.i)
-    (split_first c.args.b c.args.bytes.now c.loop-i.i (omega arith, c.if-x-b.true, c.loop-i.invariant))
-
 pub returns : goal.returns
-returns c = split_none c.args.b c.args.bytes.now (λ k h. c.loop-i.invariant k (omega arith))
+returns c =
+    let first = IsFirst-from_position _ _ c.position.result (λ x. x ≡ c.args.b) (λ x. x ≡ c.args.b → ⊥) c.position.ensures.ran (YieldsList-from_slice c.args.bytes.now cc) (λ x q k. search (rules, tests)) (λ x q k. search (rules, tests)) in
+    rw c.unwrap_or-end.ensures (split_at c.args.b c.args.bytes.now c.position.result c.get.result first (rw c.unwrap_or-end.ensures at c.get.ensures.lookup))

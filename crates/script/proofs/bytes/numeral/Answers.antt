@@ -1,25 +1,25 @@
-use Rattle.std.proofs.Common.{sym, ◌∙◌, inl, inr, pow-suc, add-one, arith}
-use Rattle.script.proofs.Numbers.{digits_more, number_stop, number_all, word_small, word_large}
+use Rattle.std.proofs.Common.{◌≡◌, ◌∙◌, sym, rules, inl, inr}
+use Rattle.std.specs.Str.{IsUtf8}
+use Rattle.std.proofs.lemmas.Str.{IsUtf8-from_ascii}
+use Rattle.script.proofs.Numbers.{Digits, digits_ascii, number_none, number_parsed}
 use Rattle.script.proofs.bytes.numeral.Goals as goal
-use Rattle.script.proofs.bytes.numeral.Goals.{then-b-lt48-via-then-b-lt48, then-b-lt48-via-else-b-lt48+then-b-gt57}
+use Rattle.script.proofs.bytes.numeral.Goals.{then-field-gt10-via-then-field-gt10, then-field-gt10-via-else-field-gt10+then-not-all_digits}
 
-pub returns-then-b-lt48 : goal.returns-then-b-lt48
-returns-then-b-lt48 c =
-    sym (number_stop c.loop-b.n c.loop-b.b-index c.args.field.now
-    c.loop-b.invariant.2 c.loop-b.invariant.3 c.loop-b.invariant.0 (omega arith)
-    (elim c.then-b-lt48.branch [ then-b-lt48-via-then-b-lt48 w ↦ inl (omega arith) | then-b-lt48-via-else-b-lt48+then-b-gt57 w ↦ inr (omega arith) ]))
+pub returns-then-field-gt10 : goal.returns-then-field-gt10
+returns-then-field-gt10 c =
+    number_none c.args.field.now
+    (elim c.then-field-gt10.branch [
+      | then-field-gt10-via-then-field-gt10 w ↦ inl w.if-field-gt10.true
+      | then-field-gt10-via-else-field-gt10+then-not-all_digits w ↦ inr (sym w.all_digits.ensures ∙ w.if-not-all_digits.true)
+    ])
 
-pub loop-b-preserved : goal.loop-b-preserved
-loop-b-preserved c =
-    let e = digits_more c.loop-b.n c.loop-b.b-index c.args.field.now (omega arith) (omega arith) (omega arith) in
-    (c.loop-b.invariant.0 ∙ e, rw (add-one, pow-suc) (omega arith), c.loop-b.invariant.2, c.loop-b.invariant.3)
-
-pub returns-then-n-gt4294967295 : goal.returns-then-n-gt4294967295
-returns-then-n-gt4294967295 c =
-    sym (number_all c.loop-b.n c.loop-b.b-index c.args.field.now
-    c.loop-b.invariant.2 c.loop-b.invariant.3 c.loop-b.invariant.0 (omega arith) ∙ word_large c.loop-b.n (omega arith))
+pub returns-in_err-ok : goal.returns-in_err-ok
+returns-in_err-ok c =
+    let text : IsUtf8 c.args.field.now = IsUtf8-from_ascii _ (digits_ascii _ (sym c.all_digits.ensures ∙ c.if-not-all_digits.false)) in
+    search rules
 
 pub returns : goal.returns
 returns c =
-    sym (number_all c.loop-b.n c.loop-b.b-index c.args.field.now
-    c.loop-b.invariant.2 c.loop-b.invariant.3 c.loop-b.invariant.0 (omega arith) ∙ word_small c.loop-b.n (omega arith))
+    let digits : Digits c.args.field.now = sym c.all_digits.ensures ∙ c.if-not-all_digits.false in
+    let same : c.in_ok-ok.field-0.now ≡ c.args.field.now = search rules in
+    c.ok-2.ensures.value ∙ number_parsed c.args.field.now c.parse.result c.if-field-gt10.false digits (rw same at c.parse.ensures.value.0)
