@@ -17,7 +17,8 @@ use messages::answer::Answer;
 use messages::request::Request;
 use std::alloc::{AllocError, Global};
 
-/// The call that four words name: kind, core, address and value. Waves are 0.
+/// The call that four words name: kind, core, address and value. Waves are 0. (C gives words, so a
+/// kind is a number.)
 fn call_of(kind: u32, core: u32, address: u32, value: u32) -> Call
     ensures load { kind ≡ 0 → result ≡ call.Load core 0 address }
     ensures store { kind ≡ 1 → result ≡ call.Store core 0 address value }
@@ -45,22 +46,20 @@ fn call_of(kind: u32, core: u32, address: u32, value: u32) -> Call
 
 /// The calls of a row of words, four words to a call.
 fn calls_of(heap: Global, words: &[u32]) -> Result<Vec<Call>, AllocError> {
-    let mut calls = Vec::new(heap);
     let (rows, _) = words.as_chunks::<4>();
-    for row in rows {
-        let [kind, core, address, value] = *row;
-        calls.push(call_of(kind, core, address, value))?;
-    }
-    Ok(calls)
+    rows.iter()
+        .map(|[kind, core, address, value]| call_of(*kind, *core, *address, *value))
+        .collect(heap)
 }
 
-/// A number for what a call came to: a value, the clock or a refusal's number, else 0.
+/// A number for what a call came to: a value, the clock or a refusal's number, else 0. (C takes a
+/// number.)
 fn worth(outcome: Outcome) -> u32 {
     match outcome {
         Outcome::Hit { value, .. } => value,
         Outcome::Delivered(Delivered::Load { value, .. }) => value,
         Outcome::Ticked(clock) => clock,
-        Outcome::Refused(refusal) => refusal.number(),
+        Outcome::Refused(refusal) => u32::from(refusal),
         _ => 0,
     }
 }
@@ -71,16 +70,14 @@ fn make_all<Q: LaneNet<Request>, R: LaneNet<Answer>, M: Memory>(
     calls: &[Call],
     sum: u32,
 ) -> u32 {
-    let mut sum = sum;
-    for call in calls {
-        sum = sum
-            .wrapping_mul(31)
-            .wrapping_add(worth(make(machine, *call)));
-    }
-    sum
+    calls.iter().fold(sum, |sum, call| {
+        sum.wrapping_mul(31)
+            .wrapping_add(worth(make(machine, *call)))
+    })
 }
 
-/// Starts a machine, makes the calls of `before` once, and those of `calls` so many times.
+/// Starts a machine, makes the calls of `before` once, and those of `calls` so many times. (`player` has
+/// such rows too: a machine borrows them, so whoever plays makes them.)
 fn run(
     heap: Global,
     start: Call,
@@ -89,17 +86,8 @@ fn run(
     calls: &[u32],
     rounds: u32,
 ) -> Result<u32, AllocError> {
-    let request = Request::Load {
-        wave: 0,
-        address: 0,
-    };
-    let answer = Answer::Store {
-        wave: 0,
-        address: 0,
-        stamp: 0,
-    };
-    let mut requests = vec![in heap; request; 512]?;
-    let mut answers = vec![in heap; answer; 512]?;
+    let mut requests = vec![in heap; Request::FILLER; 512]?;
+    let mut answers = vec![in heap; Answer::FILLER; 512]?;
     let mut words = vec![in heap; 0u32; 4096]?;
     let before = calls_of(heap, before)?;
     let calls = calls_of(heap, calls)?;
@@ -111,14 +99,14 @@ fn run(
         heap,
     )?;
     let mut sum = worth(make(&mut machine, start));
-    sum = make_all(&mut machine, before.as_slice(), sum);
+    sum = make_all(&mut machine, &before, sum);
     for _ in 0..rounds {
-        sum = make_all(&mut machine, calls.as_slice(), sum);
+        sum = make_all(&mut machine, &calls, sum);
     }
     Ok(sum)
 }
 
-/// A number for all that the calls came to; 0 for want of memory.
+/// A number for all that the calls came to; 0 for want of memory. (`strong` is a `bool` for C.)
 #[unsafe(no_mangle)]
 pub extern "C" fn bench_ffi_run(
     heap: Global,
@@ -134,15 +122,7 @@ pub extern "C" fn bench_ffi_run(
     } else {
         Protocol::Weak
     };
-    match run(
-        heap,
-        Call::Start { cores, protocol },
-        lifetime,
-        before,
-        calls,
-        rounds,
-    ) {
-        Ok(sum) => sum,
-        Err(_) => 0,
-    }
+    let start = Call::Start { cores, protocol };
+    // C has no Result: 0 stands for want of memory
+    run(heap, start, lifetime, before, calls, rounds).unwrap_or(0)
 }

@@ -19,25 +19,20 @@ use std::io::Write;
 const SCRIPT: &[u8; 80] =
     b"N 1 S\nL 0 3 250\nV 0\nD 0\nL 0 3 252\nV 0\nD 0\nL 0 3 253\nV 0\nD 0\nL 0 3 503\nL 0 3 504\n";
 
-/// Two blocks of zero words; a word of block 1 was damaged.
+/// Two blocks of zero words; a word of block 1 was damaged. (The trials have the same: a program and
+/// tests share no code.)
 fn damaged() -> [u8; 1024] {
     let mut bytes = [0u8; 1024];
-    for i in 508..512usize {
-        bytes[i] = 255;
-        bytes[i + 512] = 255;
-    }
+    bytes[508..512].fill(255);
     bytes[1016] = 1;
     bytes[1020] = 254;
+    bytes[1021..].fill(255);
     bytes[600] = 1;
     bytes
 }
 
 fn main(rt: HostRuntime) -> io::Result<()> {
-    let request = Request::Load {
-        wave: 0,
-        address: 0,
-    };
-    let mut row = [request; 16];
+    let mut row = [Request::FILLER; 16];
     let mut bytes = damaged();
     let mut words = [7u32; 300];
     let mut machine = Machine::new(

@@ -1,6 +1,5 @@
 //! Machines over ends that differ: hops, packed lanes, images, splits and the learner.
-use crate::tests::{REQUEST, last};
-use calls::call::{Call, Protocol};
+use crate::scenes::{DELIVER_0, SERVE_0, TWO_STRONG, last, load};
 use calls::outcome::{Delivered, Outcome};
 use calls::refusal::Refusal;
 use hops::hop::Hop;
@@ -10,36 +9,18 @@ use lifetimes::learner::Learner;
 use machine::tables::Machine;
 use memories::split::Split;
 use memories::words::Words;
+use messages::request::Request;
 use packs::packed::Packed;
 use std::test::Fail;
 
-const START: Call = Call::Start {
-    cores: 2,
-    protocol: Protocol::Strong,
-};
-
-/// Core 0 loads an address.
-fn load(address: u32) -> Call {
-    Call::Load {
-        core: 0,
-        wave: 3,
-        address,
-    }
-}
-
-const SERVE: Call = Call::Serve { core: 0 };
-
-const DELIVER: Call = Call::Deliver { core: 0 };
-
-/// Two blocks of zero words; a word of block 1 was damaged.
+/// Two blocks of zero words; a word of block 1 was damaged. (The program `faults` has the same: a
+/// program and tests share no code.)
 fn damaged() -> [u8; 1024] {
     let mut bytes = [0u8; 1024];
-    for i in 508..512usize {
-        bytes[i] = 255;
-        bytes[i + 512] = 255;
-    }
+    bytes[508..512].fill(255);
     bytes[1016] = 1;
     bytes[1020] = 254;
+    bytes[1021..].fill(255);
     bytes[600] = 1;
     bytes
 }
@@ -48,8 +29,8 @@ fn damaged() -> [u8; 1024] {
 /// block 1 is address 126 of the image, and address 252 of the split.
 #[test]
 fn fault_at_core(rt: HostRuntime) -> Result<(), Fail> {
-    let mut near = [REQUEST; 16];
-    let mut far = [REQUEST; 16];
+    let mut near = [Request::FILLER; 16];
+    let mut far = [Request::FILLER; 16];
     let mut bytes = damaged();
     let mut words = [7u32; 300];
     let mut m = Machine::new(
@@ -64,7 +45,7 @@ fn fault_at_core(rt: HostRuntime) -> Result<(), Fail> {
         address: 252,
         block: 1,
     };
-    let faulty = [START, load(252), SERVE, DELIVER];
+    let faulty = [TWO_STRONG, load(3, 252), SERVE_0, DELIVER_0];
     assert_eq!(rt; last(&mut m, &faulty), Some(Outcome::Delivered(fault)));
     let sound = Delivered::Load {
         wave: 3,
@@ -72,7 +53,7 @@ fn fault_at_core(rt: HostRuntime) -> Result<(), Fail> {
         value: 0,
     };
     assert_eq!(rt;
-        last(&mut m, &[load(250), SERVE, DELIVER]),
+        last(&mut m, &[load(3, 250), SERVE_0, DELIVER_0]),
         Some(Outcome::Delivered(sound))
     );
     let word = Delivered::Load {
@@ -81,11 +62,11 @@ fn fault_at_core(rt: HostRuntime) -> Result<(), Fail> {
         value: 7,
     };
     assert_eq!(rt;
-        last(&mut m, &[load(253), SERVE, DELIVER]),
+        last(&mut m, &[load(3, 253), SERVE_0, DELIVER_0]),
         Some(Outcome::Delivered(word))
     );
     let nowhere = Some(Outcome::Refused(Refusal::UnknownAddress));
-    assert_eq!(rt; last(&mut m, &[load(504)]), nowhere);
-    assert_eq!(rt; last(&mut m, &[load(503)]), Some(Outcome::Sent));
+    assert_eq!(rt; last(&mut m, &[load(3, 504)]), nowhere);
+    assert_eq!(rt; last(&mut m, &[load(3, 503)]), Some(Outcome::Sent));
     Ok(())
 }

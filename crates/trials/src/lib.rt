@@ -4,6 +4,8 @@
 #[cfg(test)]
 mod ends;
 #[cfg(test)]
+mod scenes;
+#[cfg(test)]
 mod sizes;
 #[cfg(test)]
 mod tests;

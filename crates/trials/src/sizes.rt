@@ -1,5 +1,5 @@
 //! Machines over memories of every size: none, one word, one block with a rest, and past 4,096.
-use crate::tests::{ANSWER, REQUEST, last};
+use crate::scenes::{DELIVER_0, SERVE_0, last, load};
 use calls::call::{Call, Protocol};
 use calls::outcome::{Delivered, Outcome};
 use calls::refusal::Refusal;
@@ -9,6 +9,8 @@ use lifetimes::fixed::Fixed;
 use machine::tables::Machine;
 use memories::memory::Memory;
 use memories::words::Words;
+use messages::answer::Answer;
+use messages::request::Request;
 use std::alloc::Global;
 use std::test::Fail;
 
@@ -18,8 +20,8 @@ fn loaded<M: Memory + Drop>(
     memory: M,
     address: u32,
 ) -> Result<Option<Outcome>, Fail> {
-    let mut requests = [REQUEST; 16];
-    let mut answers = [ANSWER; 16];
+    let mut requests = [Request::FILLER; 16];
+    let mut answers = [Answer::FILLER; 16];
     let mut m = Machine::new(
         Ring::new(&mut requests),
         Ring::new(&mut answers),
@@ -31,19 +33,11 @@ fn loaded<M: Memory + Drop>(
         cores: 1,
         protocol: Protocol::Weak,
     };
-    let load = Call::Load {
-        core: 0,
-        wave: 0,
-        address,
-    };
-    let sent = last(&mut m, &[start, load]);
+    let sent = last(&mut m, &[start, load(0, address)]);
     if sent != Some(Outcome::Sent) {
         return Ok(sent);
     }
-    Ok(last(
-        &mut m,
-        &[Call::Serve { core: 0 }, Call::Deliver { core: 0 }],
-    ))
+    Ok(last(&mut m, &[SERVE_0, DELIVER_0]))
 }
 
 const NOWHERE: Option<Outcome> = Some(Outcome::Refused(Refusal::UnknownAddress));

@@ -1,0 +1,92 @@
+//! The machines and the calls that the trials share.
+use calls::call::{Call, Protocol};
+use calls::outcome::Outcome;
+use lanes::net::LaneNet;
+use lanes::ring::Ring;
+use lifetimes::fixed::Fixed;
+use lifetimes::policy::LifetimePolicy;
+use machine::makes::make;
+use machine::tables::Machine;
+use memories::memory::Memory;
+use memories::words::Words;
+use messages::answer::Answer;
+use messages::request::Request;
+use std::alloc::Global;
+use std::test::Fail;
+
+/// A machine over rings, a row of words and a fixed lifetime.
+pub(crate) fn board<'a>(
+    heap: Global,
+    requests: &'a mut [Request],
+    answers: &'a mut [Answer],
+    words: &'a mut [u32],
+    lifetime: u32,
+) -> Result<Machine<Ring<'a, Request>, Ring<'a, Answer>, Words<'a>, Fixed>, Fail> {
+    let machine = Machine::new(
+        Ring::new(requests),
+        Ring::new(answers),
+        Words::new(words),
+        Fixed::new(lifetime),
+        heap,
+    )?;
+    Ok(machine)
+}
+
+/// Makes the calls in order: what the last one came to, if there is one.
+pub(crate) fn last<Q: LaneNet<Request>, R: LaneNet<Answer>, M: Memory, P: LifetimePolicy>(
+    machine: &mut Machine<Q, R, M, P>,
+    calls: &[Call],
+) -> Option<Outcome> {
+    calls.iter().map(|call| make(machine, *call)).last()
+}
+
+/// Ticks as often as told.
+pub(crate) fn ticks<Q: LaneNet<Request>, R: LaneNet<Answer>, M: Memory, P: LifetimePolicy>(
+    machine: &mut Machine<Q, R, M, P>,
+    count: u32,
+) {
+    for _ in 0..count {
+        let _ = make(machine, Call::Tick);
+    }
+}
+
+pub(crate) const TWO_STRONG: Call = Call::Start {
+    cores: 2,
+    protocol: Protocol::Strong,
+};
+
+pub(crate) const LOAD_5: Call = Call::Load {
+    core: 0,
+    wave: 0,
+    address: 5,
+};
+
+pub(crate) const STORE_5: Call = Call::Store {
+    core: 1,
+    wave: 0,
+    address: 5,
+    value: 9,
+};
+
+pub(crate) const SERVE_0: Call = Call::Serve { core: 0 };
+
+pub(crate) const SERVE_1: Call = Call::Serve { core: 1 };
+
+pub(crate) const DELIVER_0: Call = Call::Deliver { core: 0 };
+
+/// A start of a number of cores.
+pub(crate) fn start(cores: u32) -> Call {
+    Call::Start {
+        cores,
+        protocol: Protocol::Strong,
+    }
+}
+
+/// A load of core 0.
+pub(crate) fn load(wave: u32, address: u32) -> Call {
+    Call::Load {
+        core: 0,
+        wave,
+        address,
+    }
+}
