@@ -1,5 +1,5 @@
 -- Serving in two steps: the request's line is found or made, and then the line is served.
-use Rattle.std.specs.Prelude.{ℕ, ◌+◌, ◌%◌, ◌^◌, Bool, Ok, Result}
+use Rattle.std.specs.Prelude.{ℕ, ◌+◌, ◌%◌, ◌^◌, ◌<◌, Bool, Ok, Option, Result, MatchOption, length}
 use Rattle.memories.specs.declared.memory.Fault.{Fault}
 use Rattle.memories.specs.declared.memory.Memory as memory
 use Rattle.memories.specs.Cells.{read_answer}
@@ -12,6 +12,10 @@ use Rattle.rules.specs.Bank.{Banked, line_at, load_line, store_line, atomic_line
 -- what memory answers at a request's address
 abbrev pub read_for : {M : Type 0} → memory.Ghosts M → M → Request → Result ℕ Fault
 read_for g m q = read_answer (g.size m) (g.cell m) (address_of q)
+
+-- a place is one of the lines, or it is none and a line can be made
+abbrev pub Inside : BankState → Option ℕ → Type 0
+Inside b place = MatchOption place (length b.lines < 256) (λ i. i < length b.lines)
 
 -- the word of a line that is made for a request: memory's, or what a store writes
 abbrev pub made_of : Request → Result ℕ Fault → Result ℕ Fault

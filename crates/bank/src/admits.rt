@@ -16,8 +16,8 @@ fn must_wait(protocol: Protocol, request: Request) -> bool
 
 impl Bank {
     /// The place of the line of a request that can be served, or none where one is to be made.
-    /// Where the lease still runs, the lane is marked as waiting on the address. (No type ties a place to
-    /// the lines, so a clause says that it is inside.)
+    /// Where the lease still runs, the lane is marked as waiting on the address. (A type that ties a place
+    /// to the lines would be longer than the clause.)
     pub fn admit(
         &mut self,
         protocol: Protocol,

@@ -28,7 +28,7 @@ impl Bank {
         })
     }
 
-    /// The place of an address's line.
+    /// The place of an address's line. (A type that ties it to the lines would be longer than the clause.)
     pub(crate) fn line_place(&self, address: u32) -> Option<usize>
         ensures value { result ≡ line_place self.now address }
         ensures inside { IfSome result (λ i. i < length self.now.lines) }
@@ -43,8 +43,8 @@ impl Bank {
         place_of(&self.kept, address).map_or(0, |at| live(self.kept[at].stamp, clock))
     }
 
-    /// Whether the stamp of an address runs, whose line stands at a place, or that has none. (No type
-    /// ties a place to the lines.)
+    /// Whether the stamp of an address runs, whose line stands at a place, or that has none. (A type
+    /// that ties a place to the lines would be longer than the clause.)
     pub(crate) fn stamp_runs(&self, place: Option<usize>, address: u32, clock: u32) -> bool
         requires { IfSome place (λ i. i < length self.now.lines) }
         ensures { result ≡ runs (stamp_at self.now clock address place) clock }
@@ -68,8 +68,8 @@ impl Bank {
         }
     }
 
-    /// Makes an unchanged line with the address's stamp, and answers its place; the kept stamp goes. (No
-    /// type ties room to the lines.)
+    /// Makes an unchanged line with the address's stamp, and answers its place; the kept stamp goes. (A type
+    /// that holds the room would be longer than the clause.)
     pub(crate) fn make_line(&mut self, address: u32, value: u32, clock: u32) -> usize
         requires { length self.old.lines < 256 }
         ensures value { result ≡ length self.old.lines }

@@ -11,7 +11,7 @@ use rules::record::Line;
 use rules::stamp::runs;
 
 /// The stamp that a load gives, which the line gets: raised by the lifetime, unless a lane waits on
-/// the address. `met` says that the line was there before.
+/// the address. `met` says that the line was there before, which only the event asks.
 pub(crate) fn lease<P: LifetimePolicy>(
     line: &mut Line,
     met: bool,

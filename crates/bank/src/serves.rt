@@ -1,10 +1,10 @@
 //! A request's turn at the bank: the last checks, and serving it.
-ghost use Rattle.std.specs.Prelude.{◌≡◌, ℕ, ◌<◌, IfOk, Ok, Err, is_some, length, MatchOption};
+ghost use Rattle.std.specs.Prelude.{◌≡◌, ℕ, ◌<◌, IfOk, Ok, Err, is_some, length, MatchBool, MatchOption};
 ghost use Rattle.lifetimes.specs.Told.{Told};
 ghost use Rattle.messages.specs.Requests.{address_of};
-ghost use Rattle.rules.specs.Bank.{fetch};
+ghost use Rattle.rules.specs.Bank.{bank_serve, fetch};
 ghost use Rattle.rules.specs.Serves.{answer_by, turn_served};
-ghost use Rattle.bank.specs.BankServes.{read_for, made_of, line_served};
+ghost use Rattle.bank.specs.BankServes.{Inside, read_for, made_of, line_served};
 
 use crate::bank_table::Bank;
 use crate::lines::{lease, write};
@@ -48,14 +48,44 @@ impl Bank {
         ensures told { Told P.LifetimePolicy.heard policy.old (turn_served self.old protocol clock (P.LifetimePolicy.present policy.old) (read_for M.Memory memory.now request) lane request).events policy.new }
     {
         let place = self.admit(protocol, clock.tick(), lane, request)?;
-        match self.fetch(place, clock, request, memory) {
-            Ok(at) => Ok(self.serve_line(at, place.is_some(), clock, request, policy)),
-            Err(fault) => fault_answer(request, fault),
+        let reply = self.serve_at(place, clock, request, memory, policy);
+        reply.or_else(|fault| fault_answer(request, fault))
+    }
+
+    /// Serves a request whose line stands at a place, or is to be made. Of a place past the lines, or
+    /// none where 256 lines exist, it answers as of an address past the memory.
+    pub fn serve_at<M: Memory, P: LifetimePolicy>(
+        &mut self,
+        place: Option<usize>,
+        clock: Clock,
+        request: Request,
+        memory: &M,
+        policy: &mut P,
+    ) -> Result<Answer, Fault>
+        ensures answer { Inside self.old place → result ≡ (bank_serve self.old clock (P.LifetimePolicy.present policy.old) (read_for M.Memory memory.now request) place request).answer }
+        ensures after { Inside self.old place → self.new ≡ (bank_serve self.old clock (P.LifetimePolicy.present policy.old) (read_for M.Memory memory.now request) place request).bank }
+        ensures told { Inside self.old place → Told P.LifetimePolicy.heard policy.old (bank_serve self.old clock (P.LifetimePolicy.present policy.old) (read_for M.Memory memory.now request) place request).events policy.new }
+    {
+        if !self.is_inside(place) {
+            return Err(Fault::UnknownAddress);
+        }
+        let at = self.fetch(place, clock, request, memory)?;
+        Ok(self.serve_line(at, place.is_some(), clock, request, policy))
+    }
+
+    /// Whether a place is one of the lines, or none and a line can be made.
+    fn is_inside(&self, place: Option<usize>) -> bool
+        ensures { MatchBool result (Inside self.now place) (Inside self.now place → ⊥) }
+    {
+        match place {
+            Some(at) => at < self.lines.len(),
+            None => self.lines.len() < 256,
         }
     }
 
     /// The place of a request's line. A missing line is made, from memory's word or, without a look
-    /// at memory, from what a store writes. (No type ties a place to the lines.)
+    /// at memory, from what a store writes. (A type that ties a place to the
+    /// lines would be longer than the clause.)
     fn fetch<M: Memory>(
         &mut self,
         place: Option<usize>,
@@ -63,7 +93,7 @@ impl Bank {
         request: Request,
         memory: &M,
     ) -> Result<usize, Fault>
-        requires { MatchOption place (length self.old.lines < 256) (λ i. i < length self.old.lines) }
+        requires { Inside self.old place }
         ensures value { result ≡ (fetch self.old clock (address_of request) (made_of request (read_for M.Memory memory.now request)) place).place }
         ensures after { self.new ≡ (fetch self.old clock (address_of request) (made_of request (read_for M.Memory memory.now request)) place).bank }
         ensures inside { IfOk result (λ i. i < length self.new.lines) }
@@ -80,7 +110,8 @@ impl Bank {
     }
 
     /// Serves a request on the line at a place. An add works modulo 2^32. `met` says that the line was
-    /// there before: a flag, since only the event of a load asks it. (No type ties a place to the lines.)
+    /// there before: a flag, since only the event of a load asks it. (A type that ties a place to the lines
+    /// would be longer than the clause; and the stamp is found in a `match` of its own, before the answer.)
     fn serve_line<P: LifetimePolicy>(
         &mut self,
         at: usize,

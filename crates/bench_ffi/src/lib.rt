@@ -77,7 +77,7 @@ fn make_all<Q: LaneNet<Request>, R: LaneNet<Answer>, M: Memory>(
 }
 
 /// Starts a machine, makes the calls of `before` once, and those of `calls` so many times. (`player` has
-/// such rows too: a machine borrows them, so whoever plays makes them.)
+/// such rows too. A machine borrows them, and a function that lent one to a closure would be no shorter.)
 fn run(
     heap: Global,
     start: Call,

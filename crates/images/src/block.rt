@@ -24,7 +24,8 @@ fn put_word(block: &mut Block, i: usize, word: u32)
     block[4 * i..4 * i + 4].copy_from_slice(&word.to_le_bytes());
 }
 
-/// The sum of the first 127 words of a block, modulo 2^32.
+/// The sum of the first 127 words of a block, modulo 2^32. (By place, as `word_of` has them: a chain over
+/// the chunks would be no shorter.)
 fn sum_of(block: &Block) -> u32
     ensures { result ≡ total block.now 127 % 2 ^ 32 }
 {

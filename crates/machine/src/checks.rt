@@ -40,7 +40,7 @@ impl Tables {
     }
 
     /// The core of a wave that may issue on an address. Checks: cause 1, then 2, then 3. (It takes the
-    /// memory's size: lending the memory beside the tables, for its own check, is not covered yet.)
+    /// memory's size: with the memory lent for its own check while the core is held, `load` got no proof.)
     pub(crate) fn issuer(
         &self,
         size: u32,

@@ -20,8 +20,8 @@ fn zero_words(heap: Global) -> Result<Vec<u32>, AllocError>
     vec![in heap; 0u32; 4096]
 }
 
-/// What tcrun writes for an input. (The benchmark's library has such rows too: a machine borrows them,
-/// so whoever plays makes them.)
+/// What tcrun writes for an input. (The benchmark's library has such rows too. A machine borrows them, and
+/// a function that lent one to a closure would be no shorter.)
 pub fn run(heap: Global, input: &[u8]) -> Result<String, AllocError>
     ensures { IfOk result (λ t. string_bytes t ≡ played board 10 0 (script (take 65536 input.now))) }
 {
