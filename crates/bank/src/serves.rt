@@ -1,5 +1,6 @@
 //! A request's turn at the bank: the last checks, and serving it.
-ghost use Rattle.std.specs.Prelude.{◌≡◌, ℕ, ◌<◌, IfOk, Ok, Err, is_some, length, MatchBool, MatchOption};
+ghost use Rattle.std.specs.Prelude.{◌≡◌, [], ℕ, ◌<◌, IfOk, Ok, Err, is_some, length, MatchBool, MatchOption};
+ghost use Rattle.memories.specs.declared.memory.Fault.TheVariants as fault;
 ghost use Rattle.lifetimes.specs.Told.{Told};
 ghost use Rattle.messages.specs.Requests.{address_of};
 ghost use Rattle.rules.specs.Bank.{bank_serve, fetch};
@@ -52,8 +53,9 @@ impl Bank {
         reply.or_else(|fault| fault_answer(request, fault))
     }
 
-    /// Serves a request whose line stands at a place, or is to be made. Of a place past the lines, or
-    /// none where 256 lines exist, it answers as of an address past the memory.
+    /// Serves a request whose line stands at a place, or is to be made. A place past the lines, or none
+    /// where 256 lines exist, is answered as an address past the memory; then nothing changes, and the
+    /// policy is told nothing.
     pub fn serve_at<M: Memory, P: LifetimePolicy>(
         &mut self,
         place: Option<usize>,
@@ -65,6 +67,8 @@ impl Bank {
         ensures answer { Inside self.old place → result ≡ (bank_serve self.old clock (P.LifetimePolicy.present policy.old) (read_for M.Memory memory.now request) place request).answer }
         ensures after { Inside self.old place → self.new ≡ (bank_serve self.old clock (P.LifetimePolicy.present policy.old) (read_for M.Memory memory.now request) place request).bank }
         ensures told { Inside self.old place → Told P.LifetimePolicy.heard policy.old (bank_serve self.old clock (P.LifetimePolicy.present policy.old) (read_for M.Memory memory.now request) place request).events policy.new }
+        ensures refused { (Inside self.old place → ⊥) → (result ≡ Err fault.UnknownAddress) × (self.new ≡ self.old) }
+        ensures untold { (Inside self.old place → ⊥) → Told P.LifetimePolicy.heard policy.old [] policy.new }
     {
         if !self.is_inside(place) {
             return Err(Fault::UnknownAddress);
