@@ -6,5 +6,3 @@ mod bytes;
 mod fields;
 pub mod line;
 pub mod reader;
-#[cfg(test)]
-mod tests;

@@ -1,7 +1,6 @@
-//! Machines over ends that differ: hops, packed lanes, images, splits and the learner.
-use crate::scenes::{DELIVER_0, SERVE_0, TWO_STRONG, last, load};
-use calls::outcome::{Delivered, Outcome};
-use calls::refusal::Refusal;
+//! A machine over ends that differ: a hop, packed lanes, a split over an image, and the learner.
+use crate::scenes::{DELIVER_0, NOWHERE, SERVE_0, faulted, load, loaded, play, start};
+use calls::outcome::Outcome;
 use hops::hop::Hop;
 use images::image::Image;
 use lanes::ring::Ring;
@@ -40,33 +39,20 @@ fn fault_at_core(rt: HostRuntime) -> Result<(), Fail> {
         Learner::new(10, 100),
         rt.alloc(),
     )?;
-    let fault = Delivered::Fault {
-        wave: 3,
-        address: 252,
-        block: 1,
-    };
-    let faulty = [TWO_STRONG, load(3, 252), SERVE_0, DELIVER_0];
-    assert_eq!(rt; last(&mut m, &faulty), Some(Outcome::Delivered(fault)));
-    let sound = Delivered::Load {
-        wave: 3,
-        address: 250,
-        value: 0,
-    };
-    assert_eq!(rt;
-        last(&mut m, &[load(3, 250), SERVE_0, DELIVER_0]),
-        Some(Outcome::Delivered(sound))
-    );
-    let word = Delivered::Load {
-        wave: 3,
-        address: 253,
-        value: 7,
-    };
-    assert_eq!(rt;
-        last(&mut m, &[load(3, 253), SERVE_0, DELIVER_0]),
-        Some(Outcome::Delivered(word))
-    );
-    let nowhere = Some(Outcome::Refused(Refusal::UnknownAddress));
-    assert_eq!(rt; last(&mut m, &[load(3, 504)]), nowhere);
-    assert_eq!(rt; last(&mut m, &[load(3, 503)]), Some(Outcome::Sent));
+    let entries = [
+        (start(2), Outcome::Started),
+        (load(3, 252), Outcome::Sent),
+        (SERVE_0, Outcome::Served),
+        (DELIVER_0, faulted(3, 252, 1)),
+        (load(3, 250), Outcome::Sent),
+        (SERVE_0, Outcome::Served),
+        (DELIVER_0, loaded(3, 250, 0)),
+        (load(3, 253), Outcome::Sent),
+        (SERVE_0, Outcome::Served),
+        (DELIVER_0, loaded(3, 253, 7)),
+        (load(3, 504), NOWHERE),
+        (load(3, 503), Outcome::Sent),
+    ];
+    play(&rt, &mut m, &entries);
     Ok(())
 }

@@ -1,6 +1,7 @@
-//! The machines and the calls that the trials share.
+//! The machines, the calls and the outcomes that the trials share.
 use calls::call::{Call, Protocol};
-use calls::outcome::Outcome;
+use calls::outcome::{Delivered, Outcome};
+use calls::refusal::Refusal;
 use lanes::net::LaneNet;
 use lanes::ring::Ring;
 use lifetimes::fixed::Fixed;
@@ -12,6 +13,7 @@ use memories::words::Words;
 use messages::answer::Answer;
 use messages::request::Request;
 use std::alloc::Global;
+use std::process::Abort;
 use std::test::Fail;
 
 /// A machine over rings, a row of words and a fixed lifetime.
@@ -32,12 +34,15 @@ pub(crate) fn board<'a>(
     Ok(machine)
 }
 
-/// Makes the calls in order: what the last one came to, if there is one.
-pub(crate) fn last<Q: LaneNet<Request>, R: LaneNet<Answer>, M: Memory, P: LifetimePolicy>(
+/// Makes the calls in order; each comes to the outcome beside it.
+pub(crate) fn play<Q: LaneNet<Request>, R: LaneNet<Answer>, M: Memory, P: LifetimePolicy>(
+    rt: &impl Abort,
     machine: &mut Machine<Q, R, M, P>,
-    calls: &[Call],
-) -> Option<Outcome> {
-    calls.iter().map(|call| make(machine, *call)).last()
+    entries: &[(Call, Outcome)],
+) {
+    for (call, outcome) in entries {
+        assert_eq!(rt; make(machine, *call), *outcome);
+    }
 }
 
 /// Ticks as often as told.
@@ -46,14 +51,9 @@ pub(crate) fn ticks<Q: LaneNet<Request>, R: LaneNet<Answer>, M: Memory, P: Lifet
     count: u32,
 ) {
     for _ in 0..count {
-        let _ = make(machine, Call::Tick);
+        let _ = machine.tick();
     }
 }
-
-pub(crate) const TWO_STRONG: Call = Call::Start {
-    cores: 2,
-    protocol: Protocol::Strong,
-};
 
 pub(crate) const LOAD_5: Call = Call::Load {
     core: 0,
@@ -90,3 +90,23 @@ pub(crate) fn load(wave: u32, address: u32) -> Call {
         address,
     }
 }
+
+/// A load's value is delivered.
+pub(crate) fn loaded(wave: u32, address: u32, value: u32) -> Outcome {
+    Outcome::Delivered(Delivered::Load {
+        wave,
+        address,
+        value,
+    })
+}
+
+/// A fault is delivered.
+pub(crate) fn faulted(wave: u32, address: u32, block: u32) -> Outcome {
+    Outcome::Delivered(Delivered::Fault {
+        wave,
+        address,
+        block,
+    })
+}
+
+pub(crate) const NOWHERE: Outcome = Outcome::Refused(Refusal::UnknownAddress);

@@ -1,13 +1,13 @@
 //! Lines of a script and of its answers.
-use crate::answer::write_line;
-use crate::reader::Reader;
 use calls::call::{Call, Protocol};
 use calls::outcome::{Delivered, Outcome};
 use calls::refusal::Refusal;
+use script::answer::write_line;
+use script::reader::Reader;
 use std::test::Fail;
 
 #[test]
-fn calls(rt: HostRuntime) {
+fn lines_are_calls(rt: HostRuntime) {
     let mut reader = Reader::new(
         b"N 2 S\nN 16 W\nL 0 1 2\nS 0 1 0000000007 4294967295\nV 3\nD 3\nT\n",
     );
@@ -41,7 +41,7 @@ fn calls(rt: HostRuntime) {
 }
 
 #[test]
-fn no_calls(rt: HostRuntime) {
+fn some_lines_are_no_calls(rt: HostRuntime) {
     let mut reader = Reader::new(
         b"V 4294967296\nV 00000000007\nV \nV  3\nV 3 \n V 3\nV\t3\nT\r\nT\0\nt\nV\nV 3 3\nL 0 1\nN 2 X\n\nT",
     );
@@ -53,7 +53,7 @@ fn no_calls(rt: HostRuntime) {
 }
 
 #[test]
-fn longest(rt: HostRuntime) {
+fn a_script_ends_at_65536_bytes(rt: HostRuntime) {
     let input = [b'\n'; 65537];
     let mut reader = Reader::new(&input);
     for _ in 0..65536 {
@@ -63,7 +63,7 @@ fn longest(rt: HostRuntime) {
 }
 
 #[test]
-fn answers(rt: HostRuntime) -> Result<(), Fail> {
+fn answers_are_lines(rt: HostRuntime) -> Result<(), Fail> {
     let (wave, address, value, block) = (9, 5, 7, 1);
     let mut out = String::new(rt.alloc());
     let outcomes = [
