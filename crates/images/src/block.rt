@@ -1,5 +1,5 @@
 //! One block of 512 bytes.
-ghost use Rattle.std.specs.Prelude.{◌≡◌, ℕ, ◌+◌, ◌*◌, ◌%◌, ◌^◌, ◌<◌, ◌≤◌, slice_index};
+ghost use Rattle.std.specs.Prelude.{◌≡◌, ℕ, ◌+◌, ◌*◌, ◌%◌, ◌^◌, ◌<◌, ◌≤◌, length, slice_index};
 ghost use Rattle.images.specs.Blocks.{ElseKept, check_of, sound, total, word_at};
 
 /// 126 words, lowest byte first, the block's number and a check. An array and no struct: it lies in
@@ -16,8 +16,8 @@ pub(crate) fn word_of(block: &Block, i: usize) -> u32
 }
 
 /// Sets word i of a block, and no other byte.
-fn put_word(block: &mut Block, i: usize, word: u32)
-    requires { i < 128 }
+fn put_word(block: &mut [u8], i: usize, word: u32)
+    requires { 4 * i + 4 ≤ length block.old }
     ensures sets { word_at block.new i ≡ word }
     ensures keeps { (p : ℕ) → (4 * i ≤ p → p < 4 * i + 4 → ⊥) → slice_index block.new p ≡ slice_index block.old p }
 {
@@ -46,14 +46,16 @@ pub(crate) fn is_sound(block: &Block, number: u32) -> bool
     word_of(block, 126) == number && word_of(block, 127) == check_of(block)
 }
 
-/// Sets word i of a block and renews the block's check.
-pub(crate) fn set_word(block: &mut Block, i: usize, word: u32)
-    requires { i < 126 }
+/// Sets word i of a block and renews the block's check. The block is lent as a part of the caller's bytes,
+/// and so as a slice.
+pub(crate) fn set_word(block: &mut [u8], i: usize, word: u32)
+    requires { (length block.old ≡ 512) × (i < 126) }
     ensures sets { word_at block.new i ≡ word }
     ensures keeps { ElseKept (4 * i) (4 * i + 4) 508 512 block.old block.new }
     ensures checks { word_at block.new 127 ≡ check_of block.new }
 {
     put_word(block, i, word);
-    let check = check_of(block);
+    let (blocks, _) = block.as_chunks();
+    let check = check_of(&blocks[0]);
     put_word(block, 127, check);
 }

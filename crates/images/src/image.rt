@@ -46,14 +46,10 @@ impl<'a> Image<'a> {
         ensures same { image_size self.new ≡ image_size self.old }
         ensures bytes { WordAlone address self.old.bytes.now self.new.bytes.now }
     {
-        // A copy is set and put back: what bytes lent as a block end as gets no proof.
         let address = address as usize;
-        let bytes = &mut *self.bytes;
-        let (blocks, _) = bytes.as_chunks();
-        let mut block = blocks[address / 126];
-        set_word(&mut block, address % 126, word);
         let start = 512 * (address / 126);
-        bytes[start..start + 512].copy_from_slice(&block);
+        let block = &mut self.bytes[start..start + 512];
+        set_word(block, address % 126, word);
     }
 }
 

@@ -1,5 +1,5 @@
 //! A ring for each lane, over the caller's row of messages.
-ghost use Rattle.std.specs.Prelude.{◌≡◌, ℕ, ◌<◌, ◌≤◌, [], length, Ok};
+ghost use Rattle.std.specs.Prelude.{◌≡◌, ℕ, ◌<◌, ◌≤◌, [], ◌∷◌, length, take, drop, Ok, slice_set};
 ghost use Rattle.lanes.specs.Lanes.{put_answer};
 ghost use Rattle.lanes.specs.Rings.{add_lane, ring_bare, ring_depth, ring_lanes, ring_place, ring_shallow, ring_slot};
 
@@ -67,7 +67,7 @@ impl<'a, M: Copy> Ring<'a, M> {
         let k = lane as usize;
         let count = self.count(lane);
         let at = self.place(k, count);
-        self.row[at] = message;
+        set_message(self.row, at, message);
         self.tracks[k].count = count + 1;
     }
 }
@@ -92,7 +92,7 @@ impl<'a, M: Copy> LaneNet<M> for Ring<'a, M> {
         if self.count(lane) == 0 {
             return None;
         }
-        Some(self.row[self.place(lane as usize, 0)])
+        Some(message_at(self.row, self.place(lane as usize, 0)))
     }
 
     #[tactic(auto, using(crate::proofs::RingLaws::ring_held))]
@@ -117,4 +117,20 @@ impl<'a, M: Copy> LaneNet<M> for Ring<'a, M> {
         };
         Some(oldest)
     }
+}
+
+/// The message at a place of a row.
+fn message_at<M: Copy>(row: &[M], at: usize) -> M
+    requires { at < length row.now }
+    ensures { take 1 (drop at row.now) ≡ result ∷ [] }
+{
+    row[at]
+}
+
+/// Sets the message at a place of a row.
+fn set_message<M: Copy>(row: &mut [M], at: usize, message: M)
+    requires { at < length row.old }
+    ensures { row.new ≡ slice_set row.old at message }
+{
+    row[at] = message;
 }

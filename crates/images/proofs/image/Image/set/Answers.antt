@@ -1,6 +1,4 @@
-use Rattle.std.proofs.Common.{◌≡◌, ℕ, ◌+◌, ◌-◌, ◌*◌, ◌/◌, ◌%◌, List, subst, rules, arith}
-use Rattle.images.specs.Blocks.{ElseKept}
-use Rattle.images.proofs.Chunks.{chunk_at}
+use Rattle.std.proofs.Common.{◌≡◌, ◌+◌, ◌-◌, ◌*◌, ◌/◌, rules, arith}
 use Rattle.images.proofs.Renewed.{Renewed, put_cell, word_alone}
 use Rattle.images.proofs.image.Image.set.Goals as goal
 
@@ -13,17 +11,12 @@ returns c =
     let n = 512 * (a / 126) + 512 - 512 * (a / 126) in
     let e : n ≡ 512 = omega arith in
     let done = c.set_word.ensures in
-    let block = chunk_at 512 _ (a / 126) xs _ c.as_chunks.ensures.front (omega arith) in
     let r : Renewed xs ys a v = record {
       fits = omega arith;
       long = omega arith;
       was = c.requires.1;
       sets = done.sets;
-      keeps = subst (λ (b : List ℕ). ElseKept (4 * (a % 126)) (4 * (a % 126) + 4) 508 512 b ys) block done.keeps;
+      keeps = done.keeps;
       checks = done.checks;
     } in
-    record {
-      cells = rw c.copy_from_slice.ensures.after (put_cell xs ys a v n e r);
-      same = search rules;
-      bytes = rw c.copy_from_slice.ensures.after (word_alone xs ys a v n e r);
-    }
+    record { cells = put_cell xs ys a v n e r; same = search rules; bytes = word_alone xs ys a v n e r }
