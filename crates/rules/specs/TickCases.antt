@@ -62,6 +62,9 @@ pub record TickCases : Type 0 where
   pub waits_1 : then (after (two_cores Strong) (lease ++ store)) (Serve 1) ≡ outcome.Refused LeaseRuns
   pub waits_11 : then (after (two_cores Strong) (lease ++ store ++ ticks 10)) (Serve 1) ≡ outcome.Refused LeaseRuns
   pub served_12 : then (after (two_cores Strong) (lease ++ store ++ ticks 11)) (Serve 1) ≡ outcome.Served
+  -- and so in one run, in which it was refused at 1 and then at 11
+  pub refused_11 : then (after (two_cores Strong) (lease ++ store ++ Serve 1 ∷ ticks 10)) (Serve 1) ≡ outcome.Refused LeaseRuns
+  pub served_at_last : then (after (two_cores Strong) (lease ++ store ++ Serve 1 ∷ ticks 10 ++ Serve 1 ∷ Tick ∷ [])) (Serve 1) ≡ outcome.Served
   -- core 0 hits at 11 and misses at 12
   pub hits_11 : then (after (two_cores Strong) (lease ++ Deliver 0 ∷ ticks 10)) (Load 0 0 5) ≡ outcome.Hit 5 7
   pub misses_12 : then (after (two_cores Strong) (lease ++ Deliver 0 ∷ ticks 11)) (Load 0 0 5) ≡ outcome.Sent
