@@ -1,5 +1,5 @@
 -- What playing the lines of a script writes, at a lifetime that stays.
-use Rattle.std.specs.Prelude.{ℕ, ◌+◌, List, [], ◌∷◌, ◌++◌, Some, None, Ok, Err, Option, Result}
+use Rattle.std.specs.Prelude.{◌≡◌, ℕ, ◌+◌, List, [], ◌∷◌, ◌++◌, take, Some, None, Ok, Err, Option, Result}
 use Rattle.calls.specs.declared.call.Call.{Call}
 use Rattle.calls.specs.declared.outcome.Outcome.{Outcome}
 use Rattle.calls.specs.declared.outcome.Outcome.TheVariants.{Refused}
@@ -28,3 +28,13 @@ line_after s life (Some c) = (make_step s life c).after
 abbrev pub played : State → ℕ → ℕ → List (Option Call) → List ℕ
 played s life n [] = []
 played s life n (l ∷ ls) = answer_line (n + 1) (line_answer s life l) ++ played (line_after s life l) life (n + 1) ls
+
+-- the state after some lines
+abbrev pub lines_after : State → ℕ → List (Option Call) → State
+lines_after s life [] = s
+lines_after s life (l ∷ ls) = lines_after (line_after s life l) life ls
+
+-- from the first on, some of the lines were played
+pub record Begun (s : State) (life : ℕ) (ls : List (Option Call)) (t : State) : Type 0 where
+  pub count : ℕ
+  pub state : t ≡ lines_after s life (take count ls)

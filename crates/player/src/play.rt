@@ -4,7 +4,7 @@ ghost use Rattle.std.specs.Result.{result_ok};
 ghost use Rattle.machine.specs.View.{view};
 ghost use Rattle.script.specs.Answers.{answer_line};
 ghost use Rattle.script.specs.Lines.{script};
-ghost use Rattle.player.specs.Played.{line_after, played, read_answer};
+ghost use Rattle.player.specs.Played.{Begun, line_after, lines_after, played, read_answer};
 
 use calls::call::Call;
 use calls::outcome::Outcome;
@@ -50,13 +50,17 @@ fn turn<Q: LaneNet<Request>, R: LaneNet<Answer>, M: Memory>(
     write_line(out, number, outcome)
 }
 
-/// Plays a script from its first line on, and adds a line for each of its lines.
+/// Plays a script from its first line on, and adds a line for each of its lines. Where memory is short
+/// for an answer's line, the lines before it and its own were played.
 pub fn play<Q: LaneNet<Request>, R: LaneNet<Answer>, M: Memory>(
     machine: &mut Machine<Q, R, M, Fixed>,
     input: &[u8],
     out: &mut String,
 ) -> Result<(), AllocError>
-    ensures { OnOk result (string_bytes out.new ≡ string_bytes out.old ++ played (view Q.LaneNet R.LaneNet M.Memory machine.old) machine.old.policy.lifetime 0 (script (take 65536 input.now))) }
+    ensures bytes { OnOk result (string_bytes out.new ≡ string_bytes out.old ++ played (view Q.LaneNet R.LaneNet M.Memory machine.old) machine.old.policy.lifetime 0 (script (take 65536 input.now))) }
+    ensures after { OnOk result (view Q.LaneNet R.LaneNet M.Memory machine.new ≡ lines_after (view Q.LaneNet R.LaneNet M.Memory machine.old) machine.old.policy.lifetime (script (take 65536 input.now))) }
+    ensures begun { Begun (view Q.LaneNet R.LaneNet M.Memory machine.old) machine.old.policy.lifetime (script (take 65536 input.now)) (view Q.LaneNet R.LaneNet M.Memory machine.new) }
+    ensures same { machine.new.policy.lifetime ≡ machine.old.policy.lifetime }
 {
     for (number, line) in (1..).zip(Reader::new(input)) {
         turn(machine, line, number, out)?;

@@ -26,4 +26,4 @@ returns c =
     (λ k. rw p.1 (c.new-2.ensures.empty k)) (rw (p.1, c.new-2.ensures.row, answers) refl)
     (rw (p.2, c.new-3.ensures, words) refl) (λ a. rw (p.2, c.new-3.ensures, words) (ap word (zeros 4096 a)))
     (string_bytes c.play.new.out) (string_bytes c.new-out.result) m.policy.lifetime (script (take 65536 c.args.input.now))
-    c.in_ok-play.ensures c.new-out.ensures.bytes (rw p.3 c.new-4.ensures)
+    c.in_ok-play.ensures.bytes c.new-out.ensures.bytes (rw p.3 c.new-4.ensures)
