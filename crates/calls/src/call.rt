@@ -30,35 +30,35 @@ impl TryFrom<u8> for Protocol {
     }
 }
 
-/// A call, with its arguments.
+/// A call, with its arguments. A script's line has the letter, and the values in this order.
 #[derive(Clone, Copy, PartialEq, Eq, Debug)]
 pub enum Call {
-    /// starts the machine with cores 0 to `cores` - 1
+    /// `N`: starts the machine with cores 0 to `cores` - 1
     Start {
         cores: u32,
         protocol: Protocol,
     },
-    /// a wave of a core loads the word at an address
+    /// `L`: a wave of a core loads the word at an address
     Load {
         core: u32,
         wave: u32,
         address: u32,
     },
-    /// a wave of a core stores a word at an address
+    /// `S`: a wave of a core stores a word at an address
     Store {
         core: u32,
         wave: u32,
         address: u32,
         value: u32,
     },
-    /// the bank serves a core's oldest request
+    /// `V`: the bank serves a core's oldest request
     Serve {
         core: u32,
     },
-    /// a core takes its oldest answer
+    /// `D`: a core takes its oldest answer
     Deliver {
         core: u32,
     },
-    /// the clock goes on by one
+    /// `T`: the clock goes on by one
     Tick,
 }

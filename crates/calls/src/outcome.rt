@@ -8,34 +8,33 @@ use std::fmt;
 /// What a delivery hands to the core: wave and address are those of its oldest pending request.
 #[derive(Clone, Copy, PartialEq, Eq, Debug)]
 pub enum Delivered {
-    /// kind 1: a load's word
+    /// kind 1, `load`: a load's word
     Load { wave: u32, address: u32, value: u32 },
-    /// kind 2: a store was served
+    /// kind 2, `store`: a store was served
     Store { wave: u32, address: u32 },
-    /// kind 3: an atomic was served; the word before it
+    /// kind 3, `atomic`: an atomic was served; the word before it
     Atomic { wave: u32, address: u32, value: u32 },
-    /// kind 4: the word was unreadable (cause 11); the block that was, and the address that the core named
+    /// kind 4, `fault`: the word was unreadable (cause 11); the block that was, and the address that the core named
     Fault { wave: u32, address: u32, block: u32 },
 }
 
-/// What a call comes to. In a script's output: `started`, `load`, `sent`, `served`, what was
-/// delivered (`load`, `store`, `atomic` or `fault`), `tick`, `refused` with the cause's number.
+/// What a call comes to, with the word that a script's output has for it, which the values follow.
 /// One enum and no `Result`: for a call as a value a refusal is one outcome among seven.
 #[derive(Clone, Copy, PartialEq, Eq, Debug)]
 pub enum Outcome {
-    /// Start: the machine runs
+    /// Start, `started`: the machine runs
     Started,
-    /// Load: the core had a running copy
+    /// Load, `load`: the core had a running copy
     Hit { address: u32, value: u32 },
-    /// Load or Store: a request was put and noted
+    /// Load or Store, `sent`: a request was put and noted
     Sent,
-    /// Serve: an answer was put
+    /// Serve, `served`: an answer was put
     Served,
     /// Deliver: what the core was handed
     Delivered(Delivered),
-    /// Tick: the clock after it
+    /// Tick, `tick`: the clock after it
     Ticked(u32),
-    /// any call: nothing changed, save that cause 7 marks the lane as waiting
+    /// any call, `refused`, the cause's number and its text: nothing changed, save that cause 7 marks the lane as waiting
     Refused(Refusal),
 }
 

@@ -3,7 +3,7 @@ ghost use Rattle.std.specs.Prelude.{◌≡◌, ℕ, ◌+◌, ◌*◌, ◌%◌, �
 ghost use Rattle.images.specs.Blocks.{ElseKept, check_of, sound, total, word_at};
 
 /// 126 words, lowest byte first, the block's number and a check. An array and no struct: it lies in
-/// the caller's bytes, which are lent as arrays alone.
+/// the caller's bytes, which are lent as they are.
 pub(crate) type Block = [u8; 512];
 
 /// Word i of a block, lowest byte first.
