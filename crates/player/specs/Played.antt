@@ -34,7 +34,8 @@ abbrev pub lines_after : State → ℕ → List (Option Call) → State
 lines_after s life [] = s
 lines_after s life (l ∷ ls) = lines_after (line_after s life l) life ls
 
--- from the first on, some of the lines were played
-pub record Begun (s : State) (life : ℕ) (ls : List (Option Call)) (t : State) : Type 0 where
-  pub count : ℕ
-  pub state : t ≡ lines_after s life (take count ls)
+-- some of the lines were played, from the first on, and what all but the last of them came to was written
+pub record Begun (s : State) (life : ℕ) (ls : List (Option Call)) (t : State) (old new : List ℕ) : Type 0 where
+  pub written : ℕ
+  pub text : new ≡ old ++ played s life 0 (take written ls)
+  pub state : t ≡ lines_after s life (take (written + 1) ls)

@@ -1,5 +1,5 @@
 //! A script played on a machine with a fixed lifetime.
-ghost use Rattle.std.specs.Prelude.{◌≡◌, ℕ, [], ◌++◌, take, string_bytes, OnOk};
+ghost use Rattle.std.specs.Prelude.{◌≡◌, ℕ, [], ◌++◌, take, is_ok, if◌then◌else◌, string_bytes, OnOk, OnErr};
 ghost use Rattle.std.specs.Result.{result_ok};
 ghost use Rattle.machine.specs.View.{view};
 ghost use Rattle.script.specs.Answers.{answer_line};
@@ -42,7 +42,7 @@ fn turn<Q: LaneNet<Request>, R: LaneNet<Answer>, M: Memory>(
     number: usize,
     out: &mut String,
 ) -> Result<(), AllocError>
-    ensures bytes { OnOk result (string_bytes out.new ≡ string_bytes out.old ++ answer_line number (read_answer (view Q.LaneNet R.LaneNet M.Memory machine.old) machine.old.policy.lifetime line)) }
+    ensures bytes { string_bytes out.new ≡ (if is_ok result then string_bytes out.old ++ answer_line number (read_answer (view Q.LaneNet R.LaneNet M.Memory machine.old) machine.old.policy.lifetime line) else string_bytes out.old) }
     ensures after { view Q.LaneNet R.LaneNet M.Memory machine.new ≡ line_after (view Q.LaneNet R.LaneNet M.Memory machine.old) machine.old.policy.lifetime (result_ok line) }
     ensures same { machine.new.policy.lifetime ≡ machine.old.policy.lifetime }
 {
@@ -51,7 +51,7 @@ fn turn<Q: LaneNet<Request>, R: LaneNet<Answer>, M: Memory>(
 }
 
 /// Plays a script from its first line on, and adds a line for each of its lines. Where memory is short
-/// for an answer's line, the lines before it and its own were played.
+/// for such a line, those before it are there, and its call was made, but none after it.
 pub fn play<Q: LaneNet<Request>, R: LaneNet<Answer>, M: Memory>(
     machine: &mut Machine<Q, R, M, Fixed>,
     input: &[u8],
@@ -59,7 +59,7 @@ pub fn play<Q: LaneNet<Request>, R: LaneNet<Answer>, M: Memory>(
 ) -> Result<(), AllocError>
     ensures bytes { OnOk result (string_bytes out.new ≡ string_bytes out.old ++ played (view Q.LaneNet R.LaneNet M.Memory machine.old) machine.old.policy.lifetime 0 (script (take 65536 input.now))) }
     ensures after { OnOk result (view Q.LaneNet R.LaneNet M.Memory machine.new ≡ lines_after (view Q.LaneNet R.LaneNet M.Memory machine.old) machine.old.policy.lifetime (script (take 65536 input.now))) }
-    ensures begun { Begun (view Q.LaneNet R.LaneNet M.Memory machine.old) machine.old.policy.lifetime (script (take 65536 input.now)) (view Q.LaneNet R.LaneNet M.Memory machine.new) }
+    ensures begun { OnErr result (Begun (view Q.LaneNet R.LaneNet M.Memory machine.old) machine.old.policy.lifetime (script (take 65536 input.now)) (view Q.LaneNet R.LaneNet M.Memory machine.new) (string_bytes out.old) (string_bytes out.new)) }
     ensures same { machine.new.policy.lifetime ≡ machine.old.policy.lifetime }
 {
     for (number, line) in (1..).zip(Reader::new(input)) {

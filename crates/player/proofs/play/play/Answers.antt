@@ -1,11 +1,11 @@
-use Rattle.std.proofs.Common.{◌≡◌, ◌+◌, ◌∷◌, [], length, string_bytes, ap, ◌∙◌, inl, inr, length-append, arith}
+use Rattle.std.proofs.Common.{◌≡◌, ◌+◌, ◌∷◌, [], length, take, string_bytes, ap, ◌∙◌, inl, inr, length-append, arith}
 use Rattle.std.specs.Iterator.Adapters.{zip_second}
 use Rattle.std.specs.Result.{result_ok}
 use Rattle.machine.specs.View.{view}
 use Rattle.script.specs.Lines.{script}
-use Rattle.player.specs.Played.{line_answer, lines_after, read_answer}
+use Rattle.player.specs.Played.{Begun, line_answer, read_answer}
 use Rattle.player.proofs.Lines.{as_read, next_line, no_line, only_no_call}
-use Rattle.player.proofs.Longer.{one_more, all_played, one_after, more_after, all_taken}
+use Rattle.player.proofs.Longer.{one_added, one_after, more_after, all_taken, on_err}
 use Rattle.player.proofs.play.play.Goals as goal
 
 pub loop-number-preserved : goal.loop-number-preserved
@@ -24,9 +24,8 @@ loop-number-preserved g c =
       c.in-Some.ensures.steps.0.1 ∙ ap (λ k. k + 1) number,
       omega (arith, ap length line, c.loop-number.invariant.1),
       t.same ∙ c.loop-number.invariant.2,
-      one_more (string_bytes c.loop-number.out) (string_bytes c.turn.new.out)
-          s (view g.Q.LaneNet g.R.LaneNet g.M.Memory c.turn.new.machine) life c.turn.new.machine.policy.lifetime n (result_ok c.in-Some.line)
-          (script here) (script next) _ c.loop-number.invariant.3 line (rw (number, read) at t.bytes) t.after t.same,
+      one_added _ _ _ _ s _ life n c.in-Some.number _ (result_ok c.in-Some.line) (script next) (c.loop-number.invariant.5 ∙ line) number
+          c.loop-number.invariant.4 c.loop-number.invariant.2 c.loop-number.invariant.3 (rw read at t.bytes),
       more_after _ _ _ _ _ n _ _ _ (c.loop-number.invariant.5 ∙ line) c.loop-number.invariant.4 c.loop-number.invariant.2 t.after,
       (one_after s life n _ _ _ (c.loop-number.invariant.5 ∙ line)).1,
     )
@@ -37,11 +36,14 @@ returns-in_err-turn-clause-begun g c =
     let here = zip_second c.loop-number.number-iterator in
     let next = zip_second c.next.new.self in
     let line : script here ≡ result_ok c.in-Some.line ∷ script next = next_line here next c.in-Some.line c.in-Some.ensures.steps.1 in
-    record {
-      count = n + 1;
+    let begun : Begun (view g.Q.LaneNet g.R.LaneNet g.M.Memory c.args.machine.now) c.args.machine.now.policy.lifetime (script (take 65536 c.args.input.now))
+    (view g.Q.LaneNet g.R.LaneNet g.M.Memory c.turn.new.machine) (string_bytes c.args.out.now) (string_bytes c.turn.new.out) = record {
+      written = n;
+      text = c.in_err-turn.ensures.bytes ∙ c.loop-number.invariant.3;
       state = more_after _ _ _ _ _ n _ (result_ok c.in-Some.line) (script next) (c.loop-number.invariant.5 ∙ line) c.loop-number.invariant.4
           c.loop-number.invariant.2 c.turn.ensures.after;
-    }
+    } in
+    on_err _ c.from_residual.result begun
 
 pub returns : goal.returns
 returns g c =
@@ -51,10 +53,10 @@ returns g c =
       | inl last ↦ absurd (omega (arith, last.1.0, c.loop-number.invariant.0, c.loop-number.invariant.1))
       | inr end ↦ no_line here end.1.0
     ] in
-    let whole = ap (lines_after _ _) (all_taken n _ (c.loop-number.invariant.5 ∙ none)) in
+    let whole = all_taken n _ (c.loop-number.invariant.5 ∙ none) in
     record {
-      bytes = all_played _ _ _ _ _ _ c.loop-number.invariant.3 none;
-      after = c.loop-number.invariant.4 ∙ whole;
-      begun = record { count = n; state = c.loop-number.invariant.4 };
+      bytes = rw whole at c.loop-number.invariant.3;
+      after = rw whole at c.loop-number.invariant.4;
+      begun = tt;
       same = c.loop-number.invariant.2;
     }
