@@ -1,7 +1,7 @@
 //! The machine over any two nets, memory and lifetime policy.
 #![tactic(auto)]
 
-pub mod checks;
+mod checks;
 pub mod issues;
 pub mod makes;
 pub mod serves;

@@ -10,14 +10,14 @@ const MOST: usize = 65536;
 
 /// The first 65,536 bytes, or all where there are fewer.
 #[tactic(auto, using(crate::proofs::Splits::take_few))]
-pub fn limited(bytes: &[u8]) -> &[u8]
+pub(crate) fn limited(bytes: &[u8]) -> &[u8]
     ensures { result.now ≡ take 65536 bytes.now }
 {
     &bytes[..MOST.min(bytes.len())]
 }
 
 /// The bytes before the first byte `b`, and those after it; all, where there is none.
-pub fn cut(bytes: &[u8], b: u8) -> (&[u8], Option<&[u8]>)
+pub(crate) fn cut(bytes: &[u8], b: u8) -> (&[u8], Option<&[u8]>)
     ensures { split b bytes.now ≡ result.0.now ∷ left b (option_map (λ x. x.now) result.1) }
 {
     let end = bytes.iter().position(|x| *x == b).unwrap_or(bytes.len());
@@ -32,7 +32,7 @@ fn all_digits(bytes: &[u8]) -> bool
 }
 
 /// The number that a field writes: 1 to 10 digits, and below 2 to the 32nd.
-pub fn numeral(field: &[u8]) -> Option<u32>
+pub(crate) fn numeral(field: &[u8]) -> Option<u32>
     ensures { result ≡ number field.now }
 {
     if field.len() > 10 || !all_digits(field) {

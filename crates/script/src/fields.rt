@@ -38,14 +38,14 @@ impl<'a> Iterator for Fields<'a> {
 }
 
 impl<'a> Fields<'a> {
-    pub fn new(line: &'a [u8]) -> Fields<'a>
+    pub(crate) fn new(line: &'a [u8]) -> Fields<'a>
         ensures { result ≡ split 32 line.now }
     {
         Fields { rest: Some(line) }
     }
 
     /// The number of the next field.
-    pub fn number(&mut self) -> Option<u32>
+    pub(crate) fn number(&mut self) -> Option<u32>
         ensures value { result ≡ number (first self.old) }
         ensures after { self.new ≡ others self.old }
     {
@@ -53,7 +53,7 @@ impl<'a> Fields<'a> {
     }
 
     /// The letter that the next field is.
-    pub fn letter(&mut self) -> Option<u8>
+    pub(crate) fn letter(&mut self) -> Option<u8>
         ensures value { result ≡ letter_of (first self.old) }
         ensures after { self.new ≡ others self.old }
     {
@@ -65,7 +65,7 @@ impl<'a> Fields<'a> {
 
     /// `x`, where no field is left.
     #[tactic(auto, using(crate::proofs::Splits::end_left))]
-    pub fn end<T: Drop>(&self, x: T) -> Option<T>
+    pub(crate) fn end<T: Drop>(&self, x: T) -> Option<T>
         ensures { result ≡ end x self.now }
     {
         self.rest.is_none().then_some(x)
