@@ -2,8 +2,8 @@
 use crate::scenes::{
     DELIVER_0, LOAD_5, NOWHERE, SERVE_0, SERVE_1, STORE_5, board, load, loaded, play, start, ticks,
 };
-use calls::call::Call;
-use calls::outcome::Outcome;
+use calls::call::{Call, Protocol};
+use calls::outcome::{Delivered, Outcome};
 use calls::refusal::Refusal;
 use messages::answer::Answer;
 use messages::request::Request;
@@ -53,6 +53,48 @@ fn stamp_edges(rt: HostRuntime) -> Result<(), Fail> {
         (Call::Tick, Outcome::Ticked(12)),
         (SERVE_1, Outcome::Served),
         (LOAD_5, Outcome::Sent),
+    ];
+    play(&rt, &mut m, &over);
+    Ok(())
+}
+
+/// Under TC-Weak a store is served while the lease runs, whose copy is good until then.
+#[test]
+fn weak_stores(rt: HostRuntime) -> Result<(), Fail> {
+    let mut requests = [Request::FILLER; 32];
+    let mut answers = [Answer::FILLER; 32];
+    let mut words = [7u32; 8];
+    let mut m = board(rt.alloc(), &mut requests, &mut answers, &mut words, 10)?;
+    let start = Call::Start {
+        cores: 2,
+        protocol: Protocol::Weak,
+    };
+    let stored = Delivered::Store {
+        wave: 0,
+        address: 5,
+    };
+    let entries = [
+        (start, Outcome::Started),
+        (LOAD_5, Outcome::Sent),
+        (SERVE_0, Outcome::Served),
+        (DELIVER_0, loaded(0, 5, 7)),
+        (STORE_5, Outcome::Sent),
+        (SERVE_1, Outcome::Served),
+        (Call::Deliver { core: 1 }, Outcome::Delivered(stored)),
+    ];
+    play(&rt, &mut m, &entries);
+    ticks(&mut m, 9);
+    let hit = Outcome::Hit {
+        address: 5,
+        value: 7,
+    };
+    let over = [
+        (Call::Tick, Outcome::Ticked(11)),
+        (LOAD_5, hit),
+        (Call::Tick, Outcome::Ticked(12)),
+        (LOAD_5, Outcome::Sent),
+        (SERVE_0, Outcome::Served),
+        (DELIVER_0, loaded(0, 5, 9)),
     ];
     play(&rt, &mut m, &over);
     Ok(())
@@ -167,17 +209,28 @@ fn lines(rt: HostRuntime) -> Result<(), Fail> {
     Ok(())
 }
 
-/// The clock at its end.
+/// The clock at its end, where a lease of 4,096 ticks ends on the last stamp of 32 bits.
 #[test]
 fn clock_end(rt: HostRuntime) -> Result<(), Fail> {
     let mut requests = [Request::FILLER; 16];
     let mut answers = [Answer::FILLER; 16];
     let mut words = [0u32; 8];
     let mut m = board(rt.alloc(), &mut requests, &mut answers, &mut words, 4096)?;
+    play(&rt, &mut m, &[(start(2), Outcome::Started)]);
     ticks(&mut m, 4294963197);
+    let hit = Outcome::Hit {
+        address: 5,
+        value: 0,
+    };
     let entries = [
         (Call::Tick, Outcome::Ticked(4294963199)),
         (Call::Tick, CLOCK_AT_END),
+        (LOAD_5, Outcome::Sent),
+        (SERVE_0, Outcome::Served),
+        (DELIVER_0, loaded(0, 5, 0)),
+        (STORE_5, Outcome::Sent),
+        (SERVE_1, LEASE_RUNS),
+        (LOAD_5, hit),
     ];
     play(&rt, &mut m, &entries);
     Ok(())

@@ -1,5 +1,5 @@
 //! A machine over ends that differ: a hop, packed lanes, a split over an image, and the learner.
-use crate::scenes::{DELIVER_0, NOWHERE, SERVE_0, faulted, load, loaded, play, start};
+use crate::scenes::{DELIVER_0, NOWHERE, SERVE_0, faulted, load, loaded, play, start, zero_blocks};
 use calls::outcome::Outcome;
 use hops::hop::Hop;
 use images::image::Image;
@@ -12,25 +12,14 @@ use messages::request::Request;
 use packs::packed::Packed;
 use std::test::Fail;
 
-/// Two blocks of zero words; a word of block 1 was damaged. (The program `faults` has the same: a
-/// program and tests share no code.)
-fn damaged() -> [u8; 1024] {
-    let mut bytes = [0u8; 1024];
-    bytes[508..512].fill(255);
-    bytes[1016] = 1;
-    bytes[1020] = 254;
-    bytes[1021..].fill(255);
-    bytes[600] = 1;
-    bytes
-}
-
 /// A fault is seen at the core, with its block and the address that the core named: word 0 of
 /// block 1 is address 126 of the image, and address 252 of the split.
 #[test]
 fn fault_at_core(rt: HostRuntime) -> Result<(), Fail> {
     let mut near = [Request::FILLER; 16];
     let mut far = [Request::FILLER; 16];
-    let mut bytes = damaged();
+    let mut bytes = zero_blocks();
+    bytes[600] = 1;
     let mut words = [7u32; 300];
     let mut m = Machine::new(
         Hop::new(Ring::new(&mut far), Ring::new(&mut near)),

@@ -82,6 +82,16 @@ pub(crate) fn start(cores: u32) -> Call {
     }
 }
 
+/// Blocks 0 and 1 of an image, of zero words.
+pub(crate) fn zero_blocks() -> [u8; 1024] {
+    let mut bytes = [0; 1024];
+    bytes[508..512].fill(255);
+    bytes[1016] = 1;
+    bytes[1020] = 254;
+    bytes[1021..].fill(255);
+    bytes
+}
+
 /// A load of core 0.
 pub(crate) fn load(wave: u32, address: u32) -> Call {
     Call::Load {

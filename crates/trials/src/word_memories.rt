@@ -1,4 +1,5 @@
 //! Memories: rows of words, block images, and splits over both.
+use crate::scenes::zero_blocks;
 use images::image::Image;
 use memories::memory::{Fault, Memory};
 use memories::split::Split;
@@ -19,18 +20,9 @@ fn reads<M: Memory>(rt: &impl Abort, memory: &M, size: u32, wanted: &[(u32, Resu
     }
 }
 
-// Blocks 0 and 1 of zero words.
-fn zeros() -> [u8; 1024] {
-    let mut bytes = [0; 1024];
-    bytes[508..512].fill(255);
-    bytes[1016] = 1;
-    bytes[1020..1024].copy_from_slice(&[254, 255, 255, 255]);
-    bytes
-}
-
-// The same with 0x01020304 at address 127.
+// Zero blocks with 0x01020304 at address 127.
 fn written() -> [u8; 1024] {
-    let mut bytes = zeros();
+    let mut bytes = zero_blocks();
     bytes[1020] = 250;
     bytes[1021] = 252;
     bytes[1022] = 253;
@@ -113,7 +105,7 @@ fn an_image_has_126_words_a_block(rt: HostRuntime) {
 
 #[test]
 fn a_write_to_an_image_changes_its_word_and_check(rt: HostRuntime) {
-    let mut bytes = zeros();
+    let mut bytes = zero_blocks();
     let mut image = Image::new(&mut bytes);
     assert_eq!(rt; image.write(127, 0x01020304), Ok(()));
     reads(
@@ -127,7 +119,7 @@ fn a_write_to_an_image_changes_its_word_and_check(rt: HostRuntime) {
 
 #[test]
 fn a_damaged_block_is_neither_read_nor_written(rt: HostRuntime) {
-    let mut bytes = zeros();
+    let mut bytes = zero_blocks();
     bytes[1016] = 2;
     let mut image = Image::new(&mut bytes);
     reads(
@@ -143,7 +135,7 @@ fn a_damaged_block_is_neither_read_nor_written(rt: HostRuntime) {
 
 #[test]
 fn a_damaged_word_or_check_is_told(rt: HostRuntime) {
-    let mut bytes = zeros();
+    let mut bytes = zero_blocks();
     bytes[0] = 1;
     bytes[1023] = 254;
     let image = Image::new(&mut bytes);
@@ -152,7 +144,7 @@ fn a_damaged_word_or_check_is_told(rt: HostRuntime) {
 
 #[test]
 fn a_fault_passes_a_split_with_the_block_below(rt: HostRuntime) {
-    let mut bytes = zeros();
+    let mut bytes = zero_blocks();
     bytes[1016] = 2;
     let mut row = [7u32; 252];
     let mut memory = Split::new(Words::new(&mut row), Image::new(&mut bytes));
