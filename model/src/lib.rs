@@ -1,4 +1,4 @@
-//! A model of the whole machine in plain Rust, written from the rules alone.
+//! A model of the whole machine in plain Rust, written from the rules and the pages in `docs/`.
 //!
 //! It shares no text with the proved code. `compare` plays scripts on both.
 
