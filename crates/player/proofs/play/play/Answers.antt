@@ -5,7 +5,7 @@ use Rattle.machine.specs.View.{view}
 use Rattle.script.specs.Lines.{script}
 use Rattle.player.specs.Played.{Begun, line_answer, read_answer}
 use Rattle.player.proofs.Lines.{as_read, next_line, no_line, only_no_call}
-use Rattle.player.proofs.Longer.{one_added, one_after, more_after, all_taken, on_err}
+use Rattle.player.proofs.Longer.{one_added, one_after, more_after, fewer_played, all_taken, on_err}
 use Rattle.player.proofs.play.play.Goals as goal
 
 pub loop-number-preserved : goal.loop-number-preserved
@@ -39,6 +39,7 @@ returns-in_err-turn-clause-begun g c =
     let begun : Begun (view g.Q.LaneNet g.R.LaneNet g.M.Memory c.args.machine.now) c.args.machine.now.policy.lifetime (script (take 65536 c.args.input.now))
     (view g.Q.LaneNet g.R.LaneNet g.M.Memory c.turn.new.machine) (string_bytes c.args.out.now) (string_bytes c.turn.new.out) = record {
       written = n;
+      fewer = fewer_played n _ _ _ (c.loop-number.invariant.5 ∙ line);
       text = c.in_err-turn.ensures.bytes ∙ c.loop-number.invariant.3;
       state = more_after _ _ _ _ _ n _ (result_ok c.in-Some.line) (script next) (c.loop-number.invariant.5 ∙ line) c.loop-number.invariant.4
           c.loop-number.invariant.2 c.turn.ensures.after;
