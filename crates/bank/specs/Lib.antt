@@ -1,2 +1,1 @@
 pub mod BankView
-pub mod BankServes

@@ -1,10 +1,9 @@
 //! What the bank's tables answer, and how they change.
-ghost use Rattle.std.specs.Prelude.{◌≡◌, ℕ, ◌+◌, ◌<◌, ◌≤◌, [], ◌∷◌, ◌++◌, length, IfSome, IfOk};
-ghost use Rattle.rules.specs.Stamps.{runs};
-ghost use Rattle.rules.specs.Bank.{fresh_bank, unkept, line_place, live, stamp_at, made, with_mark, kept_stamp, kept_place};
+ghost use Rattle.std.specs.Prelude.{◌≡◌, ℕ, ◌+◌, ◌<◌, ◌≤◌, IfOk, IsSome, None, Some, nat_le};
+ghost use Rattle.rules.specs.Places.{any};
+ghost use Rattle.rules.specs.Bank.{fresh_bank, live, line_of, line_count, kept_stamp, stamp_of, with_line, with_kept, with_mark, waits_on};
 
 use crate::bank_table::Bank;
-use rules::addressed::place_of;
 use rules::record::Line;
 use rules::stamp::runs;
 use std::alloc::{AllocError, Global};
@@ -17,73 +16,98 @@ fn live(stamp: u32, clock: u32) -> u32
 }
 
 impl Bank {
-    /// A bank with all its room reserved.
+    /// A bank with all its room.
     pub fn new(heap: Global) -> Result<Bank, AllocError>
         ensures { IfOk result (λ b. b ≡ fresh_bank) }
     {
         Ok(Bank {
-            lines: Vec::with_capacity(heap, 256)?,
-            kept: Vec::with_capacity(heap, 128)?,
+            lines: vec![in heap; None; 4096]?,
+            count: 0,
+            kept: vec![in heap; 0u32; 4096]?,
             waiting: [None; 16],
+            waiters: 0,
         })
     }
 
-    /// The place of an address's line. (A type that ties it to the lines would be longer than the clause.)
-    pub(crate) fn line_place(&self, address: u32) -> Option<usize>
-        ensures value { result ≡ line_place self.now address }
-        ensures inside { IfSome result (λ i. i < length self.now.lines) }
+    /// Empties the bank.
+    pub fn clear(&mut self)
+        ensures { self.new ≡ fresh_bank }
     {
-        place_of(&self.lines, address)
+        self.lines.fill(None);
+        self.count = 0;
+        self.kept.fill(0);
+        self.waiting = [None; 16];
+        self.waiters = 0;
+    }
+
+    /// The line of an address.
+    pub(crate) fn line(&self, address: u32) -> Option<Line>
+        ensures { result ≡ line_of self.now address }
+    {
+        *self.lines.get(address as usize)?
+    }
+
+    /// Whether 256 lines exist.
+    pub(crate) fn is_full(&self) -> bool
+        ensures { result ≡ nat_le 256 (line_count self.now) }
+    {
+        self.count >= 256
     }
 
     /// The running kept stamp of an address, else 0.
-    fn kept_stamp(&self, address: u32, clock: u32) -> u32
-        ensures { result ≡ kept_stamp self.now clock (kept_place self.now address) }
+    pub(crate) fn kept_stamp(&self, address: u32, clock: u32) -> u32
+        ensures { result ≡ kept_stamp self.now clock address }
     {
-        place_of(&self.kept, address).map_or(0, |at| live(self.kept[at].stamp, clock))
+        self.kept
+            .get(address as usize)
+            .map_or(0, |stamp| live(*stamp, clock))
     }
 
-    /// Whether the stamp of an address runs, whose line stands at a place, or that has none. (A type
-    /// that ties a place to the lines would be longer than the clause.)
-    pub(crate) fn stamp_runs(&self, place: Option<usize>, address: u32, clock: u32) -> bool
-        requires { IfSome place (λ i. i < length self.now.lines) }
-        ensures { result ≡ runs (stamp_at self.now clock address place) clock }
+    /// The stamp of an address whose line this is, or that has none.
+    pub(crate) fn stamp(&self, line: Option<Line>, address: u32, clock: u32) -> u32
+        ensures { result ≡ stamp_of self.now clock address line }
     {
-        let stamp = match place {
-            Some(at) => self.lines[at].stamp,
+        match line {
+            Some(line) => line.stamp,
             None => self.kept_stamp(address, clock),
-        };
-        runs(stamp, clock)
-    }
-
-    /// Takes out the kept stamp of an address: the stamp if it runs, else 0. (Not by `kept_stamp`, which
-    /// would search twice.)
-    fn take_kept(&mut self, address: u32, clock: u32) -> u32
-        ensures value { result ≡ kept_stamp self.old clock (kept_place self.old address) }
-        ensures after { self.new ≡ unkept self.old address }
-    {
-        match place_of(&self.kept, address) {
-            Some(at) => live(self.kept.remove(at).stamp, clock),
-            None => 0,
         }
     }
 
-    /// Makes an unchanged line with the address's stamp, and answers its place; the kept stamp goes. (A type
-    /// that holds the room would be longer than the clause.)
-    pub(crate) fn make_line(&mut self, address: u32, value: u32, clock: u32) -> usize
-        requires { length self.old.lines < 256 }
-        ensures value { result ≡ length self.old.lines }
-        ensures after { self.new ≡ made self.old clock address value }
-        ensures inside { result < length self.new.lines }
+    /// Looks through the lanes for one that waits on an address.
+    #[inline(never)]
+    fn find_waiter(&self, address: u32) -> bool
+        ensures { result ≡ any (waits_on address) self.now.waiting }
     {
-        let stamp = self.take_kept(address, clock);
-        self.lines.push_reserved(Line {
-            address,
-            value,
-            stamp,
-            changed: false,
-        });
-        self.lines.len() - 1
+        self.waiting.contains(&Some(address))
+    }
+
+    /// Whether a lane waits on an address. Mostly none waits at all.
+    #[inline(always)]
+    pub(crate) fn is_waited_on(&self, address: u32) -> bool
+        ensures { result ≡ any (waits_on address) self.now.waiting }
+    {
+        self.waiters != 0 && self.find_waiter(address)
+    }
+
+    /// Sets the line of an address that has one.
+    pub(crate) fn set_line(&mut self, address: u32, line: Line)
+        requires { IsSome (line_of self.old address) }
+        ensures { self.new ≡ with_line self.old address (Some line) }
+    {
+        self.lines[address as usize] = Some(line);
+    }
+
+    /// Makes the line of an address that has none; its kept stamp goes.
+    pub(crate) fn make_line(&mut self, address: u32, line: Line)
+        requires known { address < 4096 }
+        requires missing { line_of self.old address ≡ None }
+        requires room { line_count self.old < 256 }
+        ensures { self.new ≡ with_line (with_kept self.old address 0) address (Some line) }
+    {
+        let place = address as usize;
+        self.kept[place] = 0;
+        self.lines[place] = Some(line);
+        self.count += 1;
     }
 
     /// Marks a lane as waiting on an address, or on none.
@@ -94,6 +118,8 @@ impl Bank {
         // not `get_mut`: its contract does not say what the row ends as
         let lane = lane as usize;
         if lane < self.waiting.len() {
+            let others = self.waiters - usize::from(self.waiting[lane].is_some());
+            self.waiters = others + usize::from(on.is_some());
             self.waiting[lane] = on;
         }
     }

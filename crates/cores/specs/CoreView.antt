@@ -1,5 +1,5 @@
 -- A core's tables as the rule book has them.
-use Rattle.std.specs.Prelude.{map, vec_items}
+use Rattle.std.specs.Prelude.{map}
 use Rattle.rules.specs.State.{CoreState}
 use Rattle.cores.specs.declared.core_table.Wave.{Wave}
 use Rattle.cores.specs.declared.core_table.Core.TheInside.{Inside}
@@ -7,7 +7,7 @@ use Rattle.cores.specs.declared.core_table.Core.TheInside.{Inside}
 abbrev pub core_state : Inside → CoreState
 core_state c = record {
   copies = c.copies;
-  pending = vec_items c.pending;
+  pending = c.pending.items;
   visible = map (λ (w : Wave). w.visible) c.waves;
   fences = map (λ (w : Wave). w.fenced) c.waves;
 }

@@ -11,6 +11,7 @@ use messages::request::Request;
 use rules::record::LeasedCopy;
 use rules::stamp::runs;
 use std::alloc::{AllocError, Global};
+use std::collections::VecDeque;
 
 /// A wave that has issued nothing.
 const FRESH: Wave = Wave {
@@ -31,7 +32,7 @@ impl Core {
     pub fn new(heap: Global) -> Result<Core, AllocError>
         ensures { IfOk result (λ c. c ≡ fresh_core) }
     {
-        let pending = Vec::with_capacity(heap, 32)?;
+        let pending = VecDeque::with_capacity(heap, 32)?;
         Ok(Core {
             copies: [None; 64],
             pending,
@@ -77,10 +78,11 @@ impl Core {
     pub fn hit(&self, address: u32, clock: u32) -> Option<u32>
         ensures { result ≡ hit self.now clock address }
     {
+        let value = running_value(self.copies[(address % 64) as usize], address, clock)?;
         if self.any_on(address) {
             return None;
         }
-        running_value(self.copies[(address % 64) as usize], address, clock)
+        Some(value)
     }
 
     /// Drops the copy of an address, running or not.
@@ -104,23 +106,21 @@ impl Core {
         if request.writes() {
             self.drop_copy(request.address());
         }
-        self.pending.push_reserved(request);
+        self.pending.push_back_reserved(request);
     }
 
     /// The oldest pending request.
     pub fn oldest(&self) -> Option<Request>
         ensures { result ≡ oldest self.now.pending }
     {
-        self.pending.first().copied()
+        self.pending.front().copied()
     }
 
     /// Removes the oldest pending request, if there is one.
     fn take(&mut self)
         ensures { self.new ≡ took self.old }
     {
-        if !self.pending.is_empty() {
-            self.pending.remove(0);
-        }
+        let _ = self.pending.pop_front();
     }
 
     /// Whether a store or atomic on the address is pending. (One chain, as `any_on` is: a test handed in

@@ -1,2 +1,1 @@
 pub mod LaneTests
-pub mod Turns

@@ -89,6 +89,7 @@ impl Tables {
     }
 
     /// Takes the oldest pending request of a core, and does what the answer to it changes.
+    #[inline(always)]
     pub(crate) fn hand(&mut self, core: u32, request: Request, answer: Answer)
         ensures { self.new ≡ handed_at self.old core request answer }
     {
@@ -99,6 +100,7 @@ impl Tables {
     }
 
     /// A request's turn at the bank.
+    #[inline(always)]
     pub(crate) fn serve<M: Memory, P: LifetimePolicy>(
         &mut self,
         core: u32,
@@ -106,6 +108,7 @@ impl Tables {
         memory: &M,
         policy: &mut P,
     ) -> Result<Answer, Refusal>
+        requires { address_of request < 4096 }
         ensures answer { result ≡ (turn_at self.old (P.LifetimePolicy.present policy.old) (read_answer (M.Memory.size memory.now) (M.Memory.cell memory.now) (address_of request)) core request).answer }
         ensures after { self.new ≡ with_bank self.old (turn_at self.old (P.LifetimePolicy.present policy.old) (read_answer (M.Memory.size memory.now) (M.Memory.cell memory.now) (address_of request)) core request).bank }
         ensures told { Told P.LifetimePolicy.heard policy.old (turn_at self.old (P.LifetimePolicy.present policy.old) (read_answer (M.Memory.size memory.now) (M.Memory.cell memory.now) (address_of request)) core request).events policy.new }

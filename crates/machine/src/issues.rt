@@ -1,8 +1,7 @@
 //! What a core issues.
 ghost use Rattle.std.specs.Prelude.{◌≡◌, Ok};
-ghost use Rattle.lifetimes.specs.Told.{Told};
 ghost use Rattle.rules.specs.Issues.{write_by, load_step, store_step};
-ghost use Rattle.machine.specs.View.{view};
+ghost use Rattle.machine.specs.Calls.{Does};
 
 use crate::tables::Machine;
 use calls::refusal::Refusal;
@@ -14,10 +13,9 @@ use messages::request::Request;
 
 impl<Q: LaneNet<Request>, R: LaneNet<Answer>, M: Memory, P: LifetimePolicy> Machine<Q, R, M, P> {
     /// Puts a request on its core's lane and notes it. Checks: 4, 5.
+    #[inline(always)]
     fn send(&mut self, core: u32, request: Request) -> Result<(), Refusal>
-        ensures answer { result ≡ (write_by (view Q.LaneNet R.LaneNet M.Memory self.old) core request (Ok tt)).answer }
-        ensures after { view Q.LaneNet R.LaneNet M.Memory self.new ≡ (write_by (view Q.LaneNet R.LaneNet M.Memory self.old) core request (Ok tt)).after }
-        ensures told { Told P.LifetimePolicy.heard self.old.policy (write_by (view Q.LaneNet R.LaneNet M.Memory self.old) core request (Ok tt)).events self.new.policy }
+        ensures { Does Q.LaneNet R.LaneNet M.Memory P.LifetimePolicy (λ s. write_by s core request (Ok tt)) self.old result self.new }
     {
         if self.tables.is_full(core) {
             return Err(Refusal::PendingFull);
@@ -32,10 +30,9 @@ impl<Q: LaneNet<Request>, R: LaneNet<Answer>, M: Memory, P: LifetimePolicy> Mach
     /// A wave of a core loads a word. Checks: 1, 2, 3, the hit, 4, 5. A load hits exactly if the core
     /// has a running copy and no pending request on the address, and answers its value; otherwise a
     /// request is put and noted, and no value is answered.
+    #[inline(always)]
     pub fn load(&mut self, core: u32, wave: u32, address: u32) -> Result<Option<u32>, Refusal>
-        ensures answer { result ≡ (load_step (view Q.LaneNet R.LaneNet M.Memory self.old) core wave address).answer }
-        ensures after { view Q.LaneNet R.LaneNet M.Memory self.new ≡ (load_step (view Q.LaneNet R.LaneNet M.Memory self.old) core wave address).after }
-        ensures told { Told P.LifetimePolicy.heard self.old.policy (load_step (view Q.LaneNet R.LaneNet M.Memory self.old) core wave address).events self.new.policy }
+        ensures { Does Q.LaneNet R.LaneNet M.Memory P.LifetimePolicy (λ s. load_step s core wave address) self.old result self.new }
     {
         let size = self.memory.size();
         let issuer = self.tables.issuer(size, core, wave, address)?;
@@ -48,10 +45,9 @@ impl<Q: LaneNet<Request>, R: LaneNet<Answer>, M: Memory, P: LifetimePolicy> Mach
 
     /// A wave of a core stores a word. Checks: 1, 2, 3, 4, 5. The copy of the address is dropped, and
     /// a request is put and noted.
+    #[inline(always)]
     pub fn store(&mut self, core: u32, wave: u32, address: u32, value: u32) -> Result<(), Refusal>
-        ensures answer { result ≡ (store_step (view Q.LaneNet R.LaneNet M.Memory self.old) core wave address value).answer }
-        ensures after { view Q.LaneNet R.LaneNet M.Memory self.new ≡ (store_step (view Q.LaneNet R.LaneNet M.Memory self.old) core wave address value).after }
-        ensures told { Told P.LifetimePolicy.heard self.old.policy (store_step (view Q.LaneNet R.LaneNet M.Memory self.old) core wave address value).events self.new.policy }
+        ensures { Does Q.LaneNet R.LaneNet M.Memory P.LifetimePolicy (λ s. store_step s core wave address value) self.old result self.new }
     {
         let size = self.memory.size();
         self.tables.issuer(size, core, wave, address)?;

@@ -1,8 +1,6 @@
 //! One call of the machine, as a value.
-ghost use Rattle.std.specs.Prelude.{◌≡◌};
-ghost use Rattle.lifetimes.specs.Told.{Told};
-ghost use Rattle.rules.specs.Makes.{make_step, outcome_of};
-ghost use Rattle.machine.specs.View.{view};
+ghost use Rattle.rules.specs.Makes.{outcome_of};
+ghost use Rattle.machine.specs.Calls.{Makes};
 
 use crate::tables::Machine;
 use calls::call::Call;
@@ -15,13 +13,12 @@ use messages::answer::Answer;
 use messages::request::Request;
 
 /// What a call comes to where it is not refused.
+#[inline(always)]
 fn try_make<Q: LaneNet<Request>, R: LaneNet<Answer>, M: Memory, P: LifetimePolicy>(
     machine: &mut Machine<Q, R, M, P>,
     call: Call,
 ) -> Result<Outcome, Refusal>
-    ensures answer { outcome_of result ≡ (make_step (view Q.LaneNet R.LaneNet M.Memory machine.old) (P.LifetimePolicy.present machine.old.policy) call).answer }
-    ensures after { view Q.LaneNet R.LaneNet M.Memory machine.new ≡ (make_step (view Q.LaneNet R.LaneNet M.Memory machine.old) (P.LifetimePolicy.present machine.old.policy) call).after }
-    ensures told { Told P.LifetimePolicy.heard machine.old.policy (make_step (view Q.LaneNet R.LaneNet M.Memory machine.old) (P.LifetimePolicy.present machine.old.policy) call).events machine.new.policy }
+    ensures { Makes Q.LaneNet R.LaneNet M.Memory P.LifetimePolicy call machine.old (outcome_of result) machine.new }
 {
     let outcome = match call {
         Call::Start { cores, protocol } => {
@@ -56,13 +53,12 @@ fn try_make<Q: LaneNet<Request>, R: LaneNet<Answer>, M: Memory, P: LifetimePolic
 }
 
 /// Makes a call: what it comes to, and what it leaves, are those of its step.
+#[inline(always)]
 pub fn make<Q: LaneNet<Request>, R: LaneNet<Answer>, M: Memory, P: LifetimePolicy>(
     machine: &mut Machine<Q, R, M, P>,
     call: Call,
 ) -> Outcome
-    ensures answer { result ≡ (make_step (view Q.LaneNet R.LaneNet M.Memory machine.old) (P.LifetimePolicy.present machine.old.policy) call).answer }
-    ensures after { view Q.LaneNet R.LaneNet M.Memory machine.new ≡ (make_step (view Q.LaneNet R.LaneNet M.Memory machine.old) (P.LifetimePolicy.present machine.old.policy) call).after }
-    ensures told { Told P.LifetimePolicy.heard machine.old.policy (make_step (view Q.LaneNet R.LaneNet M.Memory machine.old) (P.LifetimePolicy.present machine.old.policy) call).events machine.new.policy }
+    ensures { Makes Q.LaneNet R.LaneNet M.Memory P.LifetimePolicy call machine.old result machine.new }
 {
     try_make(machine, call).unwrap_or_else(Outcome::Refused)
 }

@@ -1,9 +1,9 @@
 //! Serving a core's oldest request, and delivering its oldest answer.
-ghost use Rattle.std.specs.Prelude.{◌≡◌};
-ghost use Rattle.lifetimes.specs.Told.{Told};
+ghost use Rattle.std.specs.Prelude.{◌≡◌, ◌<◌};
+ghost use Rattle.messages.specs.Requests.{address_of};
 ghost use Rattle.rules.specs.Serves.{serve_step, turn_ended, turn_of};
 ghost use Rattle.rules.specs.Delivers.{deliver_step};
-ghost use Rattle.machine.specs.View.{view};
+ghost use Rattle.machine.specs.Calls.{Does};
 
 use crate::tables::Machine;
 use calls::outcome::Delivered;
@@ -17,10 +17,10 @@ use messages::request::Request;
 
 impl<Q: LaneNet<Request>, R: LaneNet<Answer>, M: Memory, P: LifetimePolicy> Machine<Q, R, M, P> {
     /// A request's turn at the bank: its answer goes to its core's lane.
+    #[inline(always)]
     fn turn(&mut self, core: u32, request: Request) -> Result<(), Refusal>
-        ensures answer { result ≡ (turn_ended (view Q.LaneNet R.LaneNet M.Memory self.old) core (turn_of (view Q.LaneNet R.LaneNet M.Memory self.old) (P.LifetimePolicy.present self.old.policy) core request)).answer }
-        ensures after { view Q.LaneNet R.LaneNet M.Memory self.new ≡ (turn_ended (view Q.LaneNet R.LaneNet M.Memory self.old) core (turn_of (view Q.LaneNet R.LaneNet M.Memory self.old) (P.LifetimePolicy.present self.old.policy) core request)).after }
-        ensures told { Told P.LifetimePolicy.heard self.old.policy (turn_ended (view Q.LaneNet R.LaneNet M.Memory self.old) core (turn_of (view Q.LaneNet R.LaneNet M.Memory self.old) (P.LifetimePolicy.present self.old.policy) core request)).events self.new.policy }
+        requires { address_of request < 4096 }
+        ensures { Does Q.LaneNet R.LaneNet M.Memory P.LifetimePolicy (λ s. turn_ended s core (turn_of s (P.LifetimePolicy.present self.old.policy) core request)) self.old result self.new }
     {
         let answer = self
             .tables
@@ -35,10 +35,9 @@ impl<Q: LaneNet<Request>, R: LaneNet<Answer>, M: Memory, P: LifetimePolicy> Mach
     /// comes under TC-Strong, for a store or atomic on an address whose stamp runs, and marks the lane
     /// as waiting until that request is served. (Cause 2, after 6, is for an address past the memory,
     /// which a started machine has not.)
+    #[inline(always)]
     pub fn serve(&mut self, core: u32) -> Result<(), Refusal>
-        ensures answer { result ≡ (serve_step (view Q.LaneNet R.LaneNet M.Memory self.old) (P.LifetimePolicy.present self.old.policy) core).answer }
-        ensures after { view Q.LaneNet R.LaneNet M.Memory self.new ≡ (serve_step (view Q.LaneNet R.LaneNet M.Memory self.old) (P.LifetimePolicy.present self.old.policy) core).after }
-        ensures told { Told P.LifetimePolicy.heard self.old.policy (serve_step (view Q.LaneNet R.LaneNet M.Memory self.old) (P.LifetimePolicy.present self.old.policy) core).events self.new.policy }
+        ensures { Does Q.LaneNet R.LaneNet M.Memory P.LifetimePolicy (λ s. serve_step s (P.LifetimePolicy.present self.old.policy) core) self.old result self.new }
     {
         self.tables.known(core)?;
         let request = self.requests.oldest(core).ok_or(Refusal::NothingWaits)?;
@@ -52,10 +51,9 @@ impl<Q: LaneNet<Request>, R: LaneNet<Answer>, M: Memory, P: LifetimePolicy> Mach
     /// A core takes its oldest answer and its oldest pending request. Checks: 1, then 6 without one of
     /// the two. A load's value becomes a copy if its stamp runs and no store or atomic of the core on
     /// the address is pending; a store's or atomic's stamp raises the wave's visible-by stamp.
+    #[inline(always)]
     pub fn deliver(&mut self, core: u32) -> Result<Delivered, Refusal>
-        ensures answer { result ≡ (deliver_step (view Q.LaneNet R.LaneNet M.Memory self.old) core).answer }
-        ensures after { view Q.LaneNet R.LaneNet M.Memory self.new ≡ (deliver_step (view Q.LaneNet R.LaneNet M.Memory self.old) core).after }
-        ensures told { Told P.LifetimePolicy.heard self.old.policy (deliver_step (view Q.LaneNet R.LaneNet M.Memory self.old) core).events self.new.policy }
+        ensures { Does Q.LaneNet R.LaneNet M.Memory P.LifetimePolicy (λ s. deliver_step s core) self.old result self.new }
     {
         self.tables.known(core)?;
         let answer = self.answers.oldest(core).ok_or(Refusal::NothingWaits)?;

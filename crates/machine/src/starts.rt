@@ -1,10 +1,10 @@
 //! Making and starting a machine.
 ghost use Rattle.std.specs.Prelude.{◌≡◌, ◌==◌, ℕ, ◌+◌, ◌<◌, ◌≤◌, [], ◌∷◌, ◌++◌, map, length, replicate, IfOk, vec_len, vec_capacity};
 ghost use Rattle.std.specs.List.{list_all, range_with_len};
-ghost use Rattle.lifetimes.specs.Told.{Told};
 ghost use Rattle.rules.specs.Cores.{fresh_core};
 ghost use Rattle.rules.specs.Starts.{fresh_tables, started, ready, start_step, tick_step};
-ghost use Rattle.machine.specs.View.{net_state, view};
+ghost use Rattle.machine.specs.View.{net_state};
+ghost use Rattle.machine.specs.Calls.{Does};
 
 use crate::tables::{Machine, Tables};
 use bank::bank_table::Bank;
@@ -49,11 +49,12 @@ impl Tables {
     /// Starts with `count` cores.
     fn start(&mut self, count: u32, protocol: Protocol)
         requires { (count ≤ 16) × (length self.old.cores ≡ 0) }
-        ensures { self.new ≡ started self.old count protocol }
+        ensures { self.new ≡ started count protocol }
     {
         self.clock = Clock::start();
         self.protocol = protocol;
         enlist(&mut self.cores, &mut self.spare, count);
+        self.bank.clear();
     }
 
     /// Tables with all their room reserved, and no cores yet.
@@ -114,10 +115,9 @@ impl<Q: LaneNet<Request>, R: LaneNet<Answer>, M: Memory, P: LifetimePolicy> Mach
     /// Starts the machine with cores 0 to `cores` - 1, and sets the clock to 1. Refused (15) unless
     /// there are 1 to 16 cores, the machine was not started before, and both nets are empty and have
     /// a depth above 0.
+    #[inline(never)]
     pub fn start(&mut self, cores: u32, protocol: Protocol) -> Result<(), Refusal>
-        ensures answer { result ≡ (start_step (view Q.LaneNet R.LaneNet M.Memory self.old) cores protocol).answer }
-        ensures after { view Q.LaneNet R.LaneNet M.Memory self.new ≡ (start_step (view Q.LaneNet R.LaneNet M.Memory self.old) cores protocol).after }
-        ensures told { Told P.LifetimePolicy.heard self.old.policy (start_step (view Q.LaneNet R.LaneNet M.Memory self.old) cores protocol).events self.new.policy }
+        ensures { Does Q.LaneNet R.LaneNet M.Memory P.LifetimePolicy (λ s. start_step s cores protocol) self.old result self.new }
     {
         if cores == 0 || cores > 16 || self.tables.count() != 0 {
             return Err(Refusal::CannotStart);
@@ -131,9 +131,7 @@ impl<Q: LaneNet<Request>, R: LaneNet<Answer>, M: Memory, P: LifetimePolicy> Mach
 
     /// The clock goes on by one: the clock after it. Refused (12) at the clock's end.
     pub fn tick(&mut self) -> Result<u32, Refusal>
-        ensures answer { result ≡ (tick_step (view Q.LaneNet R.LaneNet M.Memory self.old)).answer }
-        ensures after { view Q.LaneNet R.LaneNet M.Memory self.new ≡ (tick_step (view Q.LaneNet R.LaneNet M.Memory self.old)).after }
-        ensures told { Told P.LifetimePolicy.heard self.old.policy (tick_step (view Q.LaneNet R.LaneNet M.Memory self.old)).events self.new.policy }
+        ensures { Does Q.LaneNet R.LaneNet M.Memory P.LifetimePolicy tick_step self.old result self.new }
     {
         self.tables.clock = self.tables.clock.next().ok_or(Refusal::ClockAtEnd)?;
         Ok(self.tables.clock.tick())

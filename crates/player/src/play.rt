@@ -16,7 +16,7 @@ use machine::tables::Machine;
 use memories::memory::Memory;
 use messages::answer::Answer;
 use messages::request::Request;
-use script::answer::write_line;
+use script::answer::AnswerWriter;
 use script::reader::Reader;
 use std::alloc::AllocError;
 
@@ -40,6 +40,7 @@ fn turn<Q: LaneNet<Request>, R: LaneNet<Answer>, M: Memory>(
     machine: &mut Machine<Q, R, M, Fixed>,
     line: Result<Call, Refusal>,
     number: usize,
+    writer: &mut AnswerWriter,
     out: &mut String,
 ) -> Result<(), AllocError>
     ensures bytes { string_bytes out.new ≡ (if is_ok result then string_bytes out.old ++ answer_line number (read_answer (view Q.LaneNet R.LaneNet M.Memory machine.old) machine.old.policy.lifetime line) else string_bytes out.old) }
@@ -47,7 +48,7 @@ fn turn<Q: LaneNet<Request>, R: LaneNet<Answer>, M: Memory>(
     ensures same { machine.new.policy.lifetime ≡ machine.old.policy.lifetime }
 {
     let outcome = play_line(machine, line);
-    write_line(out, number, outcome)
+    writer.write_line(out, number, outcome)
 }
 
 /// Plays a script from its first line on, and adds a line for each of its lines. Where memory is short
@@ -62,8 +63,9 @@ pub fn play<Q: LaneNet<Request>, R: LaneNet<Answer>, M: Memory>(
     ensures begun { OnErr result (Begun (view Q.LaneNet R.LaneNet M.Memory machine.old) machine.old.policy.lifetime (script (take 65536 input.now)) (view Q.LaneNet R.LaneNet M.Memory machine.new) (string_bytes out.old) (string_bytes out.new)) }
     ensures same { machine.new.policy.lifetime ≡ machine.old.policy.lifetime }
 {
+    let mut writer = AnswerWriter::new(*out.allocator());
     for (number, line) in (1..).zip(Reader::new(input)) {
-        turn(machine, line, number, out)?;
+        turn(machine, line, number, &mut writer, out)?;
     }
     Ok(())
 }

@@ -1,13 +1,12 @@
-use Rattle.std.proofs.Common.{◌≡◌, ℕ, Bool, Option, ◌+◌, ◌-◌, ◌*◌, ◌^◌, ◌<◌, ◌≤◌, true, false, cond, ◌&&◌, leb, ltb, ◌⊎◌, List, [], ◌∷◌, length, Some, None, Ok, Err, Result, decimal, sym, refl, ap, ◌∙◌, inl, inr, rules, arith, lit<}
+use Rattle.std.proofs.Common.{◌≡◌, ℕ, Bool, Option, ◌+◌, ◌-◌, ◌*◌, ◌^◌, ◌<◌, ◌≤◌, true, false, cond, ◌&&◌, leb, ltb, ◌⊎◌, List, [], ◌∷◌, length, get_or, drop, Some, None, Ok, Err, Result, decimal, sym, refl, ap, ◌∙◌, inl, inr, rules, arith, lit<}
 use Rattle.std.specs.Char.{is_ascii_digit}
 use Rattle.std.specs.List.{list_all}
-use Rattle.std.specs.Result.{OkIff, result_ok}
 use Rattle.std.specs.Str.{IsAscii}
-use Rattle.std.specs.Str.Parse.{ParsesUnsigned}
+use Rattle.std.proofs.lemmas.List.{at_drop_more, at_drop_all}
 use Rattle.std.proofs.lemmas.Bool.{cases_lt, le-leb, lt-leb, lt-ltb, le-ltb, and_from, and_left, and_right, cond-true, cond-false}
 use Rattle.std.proofs.lemmas.Fmt.{decimal_nonempty, length-decimal-le, digits_decimal, digits_value-decimal}
 use Rattle.std.proofs.lemmas.Str.Ascii.{IsAscii-nil, IsAscii-cons}
-use Rattle.std.proofs.lemmas.Str.Parse.{IsDigitsTest, IsNumeralModel, numerals_by_fold, parse_digits}
+use Rattle.std.proofs.lemmas.Str.Parse.{IsDigitsTest, IsNumeralModel, numerals_by_fold}
 use Rattle.script.specs.Fields.{digits, word, number, bind}
 
 -- each byte is a digit
@@ -45,35 +44,32 @@ number_within f low high = cond-true _ _ _ (and_from _ _ (lt-ltb 0 (length f) lo
 word_small : (n : ℕ) → n ≤ 4294967295 → word n ≡ Some n
 word_small n h = cond-true _ _ _ (lt-ltb n 4294967296 (omega arith))
 
-both : (t : Bool) → ◌≡◌ {A = Option ℕ} None (cond t None None)
-both true = refl
-both false = refl
-
--- a field that is too long, or has another byte, writes no number
-pub number_none : (f : List ℕ) → (10 < length f) ⊎ (list_all is_ascii_digit f ≡ false) → None ≡ number f
-number_none f (inl long) = sym (cond-false {A = Option ℕ} _ _ _ (and_right (ltb 0 (length f)) _ (lt-leb (length f) 10 long)))
-number_none f (inr other) =
-    let e : bind (digits 0 f) word ≡ None = ap (λ o. bind o word) (digits_read 0 f ∙ cond-false _ _ _ other) in
-    rw e (both (ltb 0 (length f) && leb (length f) 10))
-
 number_read : (f : List ℕ) → 1 ≤ length f → length f ≤ 10 → Digits f → number f ≡ word (read 0 f)
 number_read f some few h = number_within f some few ∙ ap (λ o. bind o word) (digits_read 0 f ∙ cond-true _ _ _ h)
 
-number_ok_iff : {E : Type 0} (f : List ℕ) (r : Result ℕ E) → length f ≤ 10 → Digits f → OkIff r ((0 < length f) × (read 0 f < 2 ^ 32)) (read 0 f) → result_ok r ≡ number f
-number_ok_iff f (Ok x) few h p =
-    sym (number_read f (omega (arith, p.0.0)) few h ∙ word_small (read 0 f) (omega (arith, p.0.1)) ∙ ap (λ n. Some n) (sym p.1))
-number_ok_iff f (Err e) few h none =
-    elim (cases_lt 0 (length f)) [
-      | inl some ↦ elim (cases_lt (read 0 f) (2 ^ 32)) [
-        | inl small ↦ absurd (none (some, small))
-        | inr large ↦ sym (number_read f (omega (arith, some)) few h ∙ cond-false _ _ _ (le-ltb (read 0 f) 4294967296 (omega (arith, large))))
-      ]
-      | inr empty ↦ sym (cond-false _ _ _ (and_left _ _ (le-ltb 0 (length f) empty)))
-    ]
+-- what has passed 2 ^ 32 stays past it
+past : (n : ℕ) (f : List ℕ) → 2 ^ 32 ≤ n → bind (digits n f) word ≡ None
+past n [] h = cond-false _ _ _ (le-ltb n 4294967296 (omega (arith, h)))
+past n (b ∷ bs) h =
+    let m = n * 10 + (b - 48) in
+    let ih : bind (digits m bs) word ≡ None = past m bs (omega (arith, h)) in
+    elim (leb 48 b && leb b 57) as (λ t. bind (cond t (digits m bs) None) word ≡ None) [ true ↦ ih | false ↦ refl ]
 
--- one of at most 10 digits is read as the library reads it
-pub number_parsed : {E : Type 0} (f : List ℕ) (r : Result ℕ E) → length f ≤ 10 → Digits f → ParsesUnsigned 32 10 f r → result_ok r ≡ number f
-number_parsed f r few h p = number_ok_iff f r few h (parse_digits model 32 f r p h)
+module _ (f : List ℕ) (n i : ℕ) (some : 1 ≤ length f) (few : length f ≤ 10)
+    (so_far : bind (digits n (drop i f)) word ≡ bind (digits 0 f) word) where
+  -- a digit after which the number does not fit
+  pub number_past : i < length f → is_ascii_digit (get_or f i 0) ≡ true → 2 ^ 32 ≤ n * 10 + (get_or f i 0 - 48) → number f ≡ None
+  number_past within digit large =
+      let b = get_or f i 0 in
+      number_within f some few ∙ sym so_far
+      ∙ at_drop_more (λ bs. bind (digits n bs) word) f i 0 within
+      ∙ ap (λ o. bind o word) (cond-true _ _ _ digit)
+      ∙ past (n * 10 + (b - 48)) (drop (i + 1) f) large
+
+  -- all digits are read
+  pub number_whole : length f ≤ i → n < 2 ^ 32 → number f ≡ Some n
+  number_whole end small =
+      number_within f some few ∙ sym so_far ∙ at_drop_all (λ bs. bind (digits n bs) word) f i end ∙ word_small n (omega (arith, small))
 
 -- a number below 2 ^ 32 is read back
 pub number_decimal : (n : ℕ) → n < 2 ^ 32 → number (decimal n) ≡ Some n

@@ -24,19 +24,21 @@ pub(crate) fn cut(bytes: &[u8], b: u8) -> (&[u8], Option<&[u8]>)
     (&bytes[..end], bytes.get(end + 1..))
 }
 
-/// Whether each byte is a digit.
-fn all_digits(bytes: &[u8]) -> bool
-    ensures { result ≡ list_all is_ascii_digit bytes.now }
-{
-    bytes.iter().all(u8::is_ascii_digit)
-}
-
 /// The number that a field writes: 1 to 10 digits, and below 2 to the 32nd.
 pub(crate) fn numeral(field: &[u8]) -> Option<u32>
     ensures { result ≡ number field.now }
 {
-    if field.len() > 10 || !all_digits(field) {
+    if field.is_empty() || field.len() > 10 {
         return None;
     }
-    str::from_utf8(field).ok()?.parse().ok()
+    let mut number = 0u32;
+    for byte in field {
+        if !byte.is_ascii_digit() {
+            return None;
+        }
+        number = number
+            .checked_mul(10)?
+            .checked_add(u32::from(*byte - b'0'))?;
+    }
+    Some(number)
 }

@@ -2,7 +2,7 @@
 use calls::call::{Call, Protocol};
 use calls::outcome::{Delivered, Outcome};
 use calls::refusal::Refusal;
-use script::answer::write_line;
+use script::answer::AnswerWriter;
 use script::reader::Reader;
 use std::test::Fail;
 
@@ -91,8 +91,9 @@ fn answers_are_lines(rt: HostRuntime) -> Result<(), Fail> {
         Outcome::Ticked(4294967295),
         Outcome::Refused(Refusal::Unreadable { block, address }),
     ];
+    let mut writer = AnswerWriter::new(*out.allocator());
     for (number, outcome) in (1..).zip(outcomes) {
-        write_line(&mut out, number, outcome)?;
+        writer.write_line(&mut out, number, outcome)?;
     }
     assert_eq!(rt;
         out.as_str(),

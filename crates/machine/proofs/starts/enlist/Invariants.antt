@@ -1,4 +1,4 @@
-use Rattle.std.proofs.Common.{◌≡◌, ◌+◌, ◌<◌, ◌≤◌, length, replicate, vec_items, vec_len, vec_capacity}
+use Rattle.std.proofs.Common.{◌≡◌, length, replicate, vec_items, vec_len, vec_capacity}
 use Rattle.rules.specs.Cores.{fresh_core}
 use Rattle.machine.proofs.starts.enlist.Given as goal
 
