@@ -1,0 +1,33 @@
+//! The sizes of the hardware. Every bound of the rules is one of these numbers, in the code and in the
+//! definitions that contracts cite.
+#![tactic(auto)]
+
+/// Lanes of a net, numbered from 0: one for each core, so it is the most cores of a machine too.
+pub const LANES: usize = 16;
+
+/// The most messages that a lane of any net takes.
+pub const LANE_DEPTH: usize = 64;
+
+/// Waves of a core, numbered from 0.
+pub const WAVES: usize = 48;
+
+/// Places for copies in a core: address a goes to place a modulo this.
+pub const COPY_PLACES: usize = 64;
+
+/// The most requests of a core that are pending.
+pub const PENDING_REQUESTS: usize = 32;
+
+/// The most lines of the bank.
+pub const LINES: usize = 256;
+
+/// The most kept stamps of the bank.
+pub const KEPT_STAMPS: usize = 128;
+
+/// The most words of a memory: addresses lie below it.
+pub const WORDS: usize = 4096;
+
+/// The longest lifetime of a lease, in ticks.
+pub const LONGEST_LIFETIME: u32 = 4096;
+
+/// The clock's last tick. A lease of the longest lifetime from it ends at the largest stamp, 2^32 - 1.
+pub const LAST_TICK: u32 = 4294963199;
