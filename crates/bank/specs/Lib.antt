@@ -1,1 +1,2 @@
 pub mod BankView
+pub mod Turns

@@ -9,8 +9,8 @@ use calls::outcome::{Delivered, Outcome};
 use lanes::net::LaneNet;
 use lanes::ring::Ring;
 use lifetimes::fixed::Fixed;
-use machine::makes::make;
-use machine::tables::Machine;
+use machine::machine::{Machine, Parts};
+use machine::tables::Tables;
 use memories::memory::Memory;
 use memories::words::Words;
 use messages::answer::Answer;
@@ -72,7 +72,7 @@ fn make_all<Q: LaneNet<Request>, R: LaneNet<Answer>, M: Memory>(
 ) -> u32 {
     calls.iter().fold(sum, |sum, call| {
         sum.wrapping_mul(31)
-            .wrapping_add(worth(make(machine, *call)))
+            .wrapping_add(worth(machine.make(*call)))
     })
 }
 
@@ -91,14 +91,17 @@ fn run(
     let mut words = vec![in heap; 0u32; 4096]?;
     let before = calls_of(heap, before)?;
     let calls = calls_of(heap, calls)?;
+    let tables = Tables::new(heap)?;
     let mut machine = Machine::new(
-        Ring::new(requests.as_mut_slice()),
-        Ring::new(answers.as_mut_slice()),
-        Words::new(words.as_mut_slice()),
-        Fixed::new(lifetime),
-        heap,
-    )?;
-    let mut sum = worth(make(&mut machine, start));
+        Parts {
+            requests: Ring::new(requests.as_mut_slice()),
+            answers: Ring::new(answers.as_mut_slice()),
+            memory: Words::new(words.as_mut_slice()),
+            policy: Fixed::new(lifetime),
+        },
+        tables,
+    );
+    let mut sum = worth(machine.make(start));
     sum = make_all(&mut machine, &before, sum);
     for _ in 0..rounds {
         sum = make_all(&mut machine, &calls, sum);

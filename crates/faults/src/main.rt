@@ -6,7 +6,8 @@ use hops::hop::Hop;
 use images::image::Image;
 use lanes::ring::Ring;
 use lifetimes::fixed::Fixed;
-use machine::tables::Machine;
+use machine::machine::{Machine, Parts};
+use machine::tables::Tables;
 use memories::split::Split;
 use memories::words::Words;
 use messages::request::Request;
@@ -35,13 +36,16 @@ fn main(rt: HostRuntime) -> io::Result<()> {
     let mut row = [Request::FILLER; 16];
     let mut bytes = damaged();
     let mut words = [7u32; 300];
+    let tables = Tables::new(rt.alloc())?;
     let mut machine = Machine::new(
-        Hop::new(Ring::new(&mut row), Packed::new()),
-        Packed::new(),
-        Split::new(Image::new(&mut bytes), Words::new(&mut words)),
-        Fixed::new(10),
-        rt.alloc(),
-    )?;
+        Parts {
+            requests: Hop::new(Ring::new(&mut row), Packed::new()),
+            answers: Packed::new(),
+            memory: Split::new(Image::new(&mut bytes), Words::new(&mut words)),
+            policy: Fixed::new(10),
+        },
+        tables,
+    );
     let mut out = String::new(rt.alloc());
     play(&mut machine, SCRIPT, &mut out)?;
     rt.stdout().write_all(out.as_bytes())

@@ -4,7 +4,7 @@ use Rattle.std.proofs.Math.Bool.{and-true}
 use Rattle.std.specs.List.{list_all, range_with_len}
 use Rattle.std.proofs.lemmas.List.Folds.{list_all-append, list_all-map}
 use Rattle.std.proofs.lemmas.List.FromFn.{map-range_with_len_more}
-use Rattle.rules.specs.Starts.{lanes_empty}
+use Rattle.rules.specs.Starting.{lanes_empty}
 
 -- the lanes below n, asked from the first on, in place of from the last
 pub lanes_all : {X : Type 0} (f : ℕ → List X) (n : ℕ) → list_all (λ k. eqb (length (f k)) 0) (range_with_len 0 n) ≡ lanes_empty f n

@@ -1,3 +1,3 @@
 pub mod TablesView
 pub mod View
-pub mod Calls
+pub mod Does

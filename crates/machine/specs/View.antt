@@ -3,7 +3,7 @@ use Rattle.lanes.specs.declared.net.LaneNet as net
 use Rattle.memories.specs.declared.memory.Memory as memory
 use Rattle.messages.specs.declared.request.Request.{Request}
 use Rattle.messages.specs.declared.answer.Answer.{Answer}
-use Rattle.machine.specs.declared.tables.Machine.{Machine}
+use Rattle.machine.specs.declared.machine.Machine.{Machine}
 use Rattle.rules.specs.State.{State, NetState, MemoryState}
 
 abbrev pub net_state : {N X : Type 0} → net.Ghosts N X → N → NetState X

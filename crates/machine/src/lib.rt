@@ -1,9 +1,10 @@
 //! The machine over any two nets, memory and lifetime policy.
 #![tactic(auto)]
 
-mod checks;
-pub mod issues;
-pub mod makes;
-pub mod serves;
-pub mod starts;
+pub mod delivering;
+pub mod issuing;
+pub mod machine;
+pub mod making;
+pub mod serving;
+pub mod starting;
 pub mod tables;

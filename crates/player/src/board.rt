@@ -7,7 +7,8 @@ ghost use Rattle.player.specs.Board.{board};
 use crate::play::play;
 use lanes::ring::Ring;
 use lifetimes::fixed::Fixed;
-use machine::tables::Machine;
+use machine::machine::{Machine, Parts};
+use machine::tables::Tables;
 use memories::words::Words;
 use messages::answer::Answer;
 use messages::request::Request;
@@ -28,13 +29,16 @@ pub fn run(heap: Global, input: &[u8]) -> Result<String, AllocError>
     let mut requests = vec![in heap; Request::FILLER; 512]?;
     let mut answers = vec![in heap; Answer::FILLER; 512]?;
     let mut words = zero_words(heap)?;
+    let tables = Tables::new(heap)?;
     let mut machine = Machine::new(
-        Ring::new(requests.as_mut_slice()),
-        Ring::new(answers.as_mut_slice()),
-        Words::new(words.as_mut_slice()),
-        Fixed::new(10),
-        heap,
-    )?;
+        Parts {
+            requests: Ring::new(requests.as_mut_slice()),
+            answers: Ring::new(answers.as_mut_slice()),
+            memory: Words::new(words.as_mut_slice()),
+            policy: Fixed::new(10),
+        },
+        tables,
+    );
     let mut out = String::new(heap);
     play(&mut machine, input, &mut out)?;
     Ok(out)

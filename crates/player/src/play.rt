@@ -11,8 +11,7 @@ use calls::outcome::Outcome;
 use calls::refusal::Refusal;
 use lanes::net::LaneNet;
 use lifetimes::fixed::Fixed;
-use machine::makes::make;
-use machine::tables::Machine;
+use machine::machine::Machine;
 use memories::memory::Memory;
 use messages::answer::Answer;
 use messages::request::Request;
@@ -30,7 +29,7 @@ fn play_line<Q: LaneNet<Request>, R: LaneNet<Answer>, M: Memory>(
     ensures same { machine.new.policy.lifetime ≡ machine.old.policy.lifetime }
 {
     match line {
-        Ok(call) => make(machine, call),
+        Ok(call) => machine.make(call),
         Err(refusal) => Outcome::Refused(refusal),
     }
 }

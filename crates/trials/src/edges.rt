@@ -21,8 +21,6 @@ const LEASE_RUNS: Outcome = Outcome::Refused(Refusal::LeaseRuns);
 
 const BANK_FULL: Outcome = Outcome::Refused(Refusal::BankFull);
 
-const CLOCK_AT_END: Outcome = Outcome::Refused(Refusal::ClockAtEnd);
-
 const CANNOT_START: Outcome = Outcome::Refused(Refusal::CannotStart);
 
 /// The tick on the stamp, and the tick after it.
@@ -206,32 +204,5 @@ fn lines(rt: HostRuntime) -> Result<(), Fail> {
     ticks(&mut m, 20);
     let stored = [(STORE_5, Outcome::Sent), (SERVE_1, Outcome::Served)];
     play(&rt, &mut m, &stored);
-    Ok(())
-}
-
-/// The clock at its end, where a lease of 4,096 ticks ends on the last stamp of 32 bits.
-#[test]
-fn clock_end(rt: HostRuntime) -> Result<(), Fail> {
-    let mut requests = [Request::FILLER; 16];
-    let mut answers = [Answer::FILLER; 16];
-    let mut words = [0u32; 8];
-    let mut m = board(rt.alloc(), &mut requests, &mut answers, &mut words, 4096)?;
-    play(&rt, &mut m, &[(start(2), Outcome::Started)]);
-    ticks(&mut m, 4294963197);
-    let hit = Outcome::Hit {
-        address: 5,
-        value: 0,
-    };
-    let entries = [
-        (Call::Tick, Outcome::Ticked(4294963199)),
-        (Call::Tick, CLOCK_AT_END),
-        (LOAD_5, Outcome::Sent),
-        (SERVE_0, Outcome::Served),
-        (DELIVER_0, loaded(0, 5, 0)),
-        (STORE_5, Outcome::Sent),
-        (SERVE_1, LEASE_RUNS),
-        (LOAD_5, hit),
-    ];
-    play(&rt, &mut m, &entries);
     Ok(())
 }

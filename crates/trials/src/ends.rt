@@ -5,7 +5,8 @@ use hops::hop::Hop;
 use images::image::Image;
 use lanes::ring::Ring;
 use lifetimes::learner::Learner;
-use machine::tables::Machine;
+use machine::machine::{Machine, Parts};
+use machine::tables::Tables;
 use memories::split::Split;
 use memories::words::Words;
 use messages::request::Request;
@@ -21,13 +22,16 @@ fn fault_at_core(rt: HostRuntime) -> Result<(), Fail> {
     let mut bytes = zero_blocks();
     bytes[600] = 1;
     let mut words = [7u32; 300];
+    let tables = Tables::new(rt.alloc())?;
     let mut m = Machine::new(
-        Hop::new(Ring::new(&mut far), Ring::new(&mut near)),
-        Packed::new(),
-        Split::new(Image::new(&mut bytes), Words::new(&mut words)),
-        Learner::new(10, 100),
-        rt.alloc(),
-    )?;
+        Parts {
+            requests: Hop::new(Ring::new(&mut far), Ring::new(&mut near)),
+            answers: Packed::new(),
+            memory: Split::new(Image::new(&mut bytes), Words::new(&mut words)),
+            policy: Learner::new(10, 100),
+        },
+        tables,
+    );
     let entries = [
         (start(2), Outcome::Started),
         (load(3, 252), Outcome::Sent),

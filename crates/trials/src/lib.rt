@@ -11,12 +11,12 @@ mod lane_nets;
 #[cfg(test)]
 mod lifetime_policies;
 #[cfg(test)]
+mod memory_sizes;
+#[cfg(test)]
 mod message_words;
 #[cfg(test)]
 mod scenes;
 #[cfg(test)]
 mod script_lines;
-#[cfg(test)]
-mod sizes;
 #[cfg(test)]
 mod word_memories;

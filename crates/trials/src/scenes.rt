@@ -6,8 +6,8 @@ use lanes::net::LaneNet;
 use lanes::ring::Ring;
 use lifetimes::fixed::Fixed;
 use lifetimes::policy::LifetimePolicy;
-use machine::makes::make;
-use machine::tables::Machine;
+use machine::machine::{Machine, Parts};
+use machine::tables::Tables;
 use memories::memory::Memory;
 use memories::words::Words;
 use messages::answer::Answer;
@@ -24,13 +24,16 @@ pub(crate) fn board<'a>(
     words: &'a mut [u32],
     lifetime: u32,
 ) -> Result<Machine<Ring<'a, Request>, Ring<'a, Answer>, Words<'a>, Fixed>, Fail> {
+    let tables = Tables::new(heap)?;
     let machine = Machine::new(
-        Ring::new(requests),
-        Ring::new(answers),
-        Words::new(words),
-        Fixed::new(lifetime),
-        heap,
-    )?;
+        Parts {
+            requests: Ring::new(requests),
+            answers: Ring::new(answers),
+            memory: Words::new(words),
+            policy: Fixed::new(lifetime),
+        },
+        tables,
+    );
     Ok(machine)
 }
 
@@ -41,7 +44,7 @@ pub(crate) fn play<Q: LaneNet<Request>, R: LaneNet<Answer>, M: Memory, P: Lifeti
     entries: &[(Call, Outcome)],
 ) {
     for (call, outcome) in entries {
-        assert_eq!(rt; make(machine, *call), *outcome);
+        assert_eq!(rt; machine.make(*call), *outcome);
     }
 }
 

@@ -1,4 +1,4 @@
-use Rattle.std.proofs.Common.{◌≡◌, replicate, rules, refl, length, take, string_bytes, ap}
+use Rattle.std.proofs.Common.{◌≡◌, replicate, rules, refl, length, take, string_bytes, ap, ◌∙◌}
 use Rattle.lanes.specs.Rings.{ring_lanes, ring_depth}
 use Rattle.memories.specs.Cells.{word}
 use Rattle.memories.specs.Rows.{row_size, row_cell}
@@ -12,18 +12,17 @@ returns c =
     let requests : length c.as_mut_slice.result.now ≡ 512 = search rules in
     let answers : length c.as_mut_slice-2.result.now ≡ 512 = search rules in
     let words : c.as_mut_slice-3.result.now ≡ replicate 4096 0 = search rules in
-    let m = c.in_ok-machine.machine in
-    let p = c.in_ok-machine.ensures.parts in
-    let f = c.in_ok-machine.ensures.fresh in
+    let m = c.new-machine.result in
+    let p = c.new-machine.ensures in
     let s : State = record {
       tables = m.tables;
       requests = record { lanes = ring_lanes m.requests; depth = ring_depth m.requests };
       answers = record { lanes = ring_lanes m.answers; depth = ring_depth m.answers };
       memory = record { size = row_size m.memory; cell = row_cell m.memory };
     } in
-    on_board s f
-    (λ k. rw p.0 (c.new.ensures.empty k)) (rw (p.0, c.new.ensures.depth, requests) refl)
-    (λ k. rw p.1 (c.new-2.ensures.empty k)) (rw (p.1, c.new-2.ensures.depth, answers) refl)
-    (rw (p.2, c.new-3.ensures, words) refl) (λ a. rw (p.2, c.new-3.ensures, words) (ap word (zeros 4096 a)))
+    on_board s (p.tables ∙ c.in_ok-tables.ensures)
+    (λ k. rw p.requests (c.new-2.ensures.empty k)) (rw (p.requests, c.new-2.ensures.depth, requests) refl)
+    (λ k. rw p.answers (c.new-3.ensures.empty k)) (rw (p.answers, c.new-3.ensures.depth, answers) refl)
+    (rw (p.memory, c.new-4.ensures, words) refl) (λ a. rw (p.memory, c.new-4.ensures, words) (ap word (zeros 4096 a)))
     (string_bytes c.play.new.out) (string_bytes c.new-out.result) m.policy.lifetime (script (take 65536 c.args.input.now))
-    c.in_ok-play.ensures.bytes c.new-out.ensures.bytes (rw p.3 c.new-4.ensures)
+    c.in_ok-play.ensures.bytes c.new-out.ensures.bytes (rw p.policy c.new-5.ensures)

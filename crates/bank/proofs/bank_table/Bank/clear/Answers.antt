@@ -5,4 +5,4 @@ pub returns : goal.returns
 returns c =
     let none = c.fill.ensures.items (elim [ None ↦ λ _. refl | Some x ↦ λ h. absurd h ]) in
     let zeros = c.fill-2.ensures.items (λ y h. h) in
-    rw (none, zeros, c.self.invariant.0, c.self.invariant.3) refl
+    rw (none, zeros, c.self.invariant.lines, c.self.invariant.kept) refl

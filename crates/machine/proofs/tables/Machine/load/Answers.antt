@@ -1,5 +1,0 @@
-use Rattle.std.proofs.Common.{rules}
-use Rattle.machine.proofs.tables.Machine.load.Goals as goal
-
-pub returns-in_err-send : goal.returns-in_err-send
-returns-in_err-send g c = record { answer = search rules; after = search rules; told = search rules }
