@@ -1,5 +1,5 @@
 //! The machine of tcrun: 4,096 zero words, rings of depth 32, and lifetime 10.
-ghost use Rattle.std.specs.Prelude.{◌≡◌, take, replicate, IfOk, string_bytes};
+ghost use Rattle.std.specs.Prelude.{◌≡◌, take, replicate, IfOk};
 ghost use Rattle.script.specs.Lines.{script};
 ghost use Rattle.player.specs.Played.{played};
 ghost use Rattle.player.specs.Board.{board};
@@ -22,8 +22,8 @@ fn zero_words(heap: Global) -> Result<Vec<u32>, AllocError>
 
 /// What tcrun writes for an input. (The benchmark's library has such rows too. A machine borrows them, and
 /// a function that lent one to a closure would be no shorter.)
-pub fn run(heap: Global, input: &[u8]) -> Result<String, AllocError>
-    ensures { IfOk result (λ t. string_bytes t ≡ played board 10 0 (script (take 65536 input.now))) }
+pub fn run(heap: Global, input: &[u8]) -> Result<Vec<u8>, AllocError>
+    ensures { IfOk result (λ out. out.items ≡ played board 10 0 (script (take 65536 input.now))) }
 {
     let mut requests = vec![in heap; Request::FILLER; 512]?;
     let mut answers = vec![in heap; Answer::FILLER; 512]?;
@@ -35,7 +35,7 @@ pub fn run(heap: Global, input: &[u8]) -> Result<String, AllocError>
         Fixed::new(10),
         heap,
     )?;
-    let mut out = String::new(heap);
+    let mut out = Vec::new(heap);
     play(&mut machine, input, &mut out)?;
     Ok(out)
 }

@@ -1,4 +1,4 @@
-use Rattle.std.proofs.Common.{◌≡◌, replicate, rules, refl, length, take, string_bytes, ap}
+use Rattle.std.proofs.Common.{◌≡◌, replicate, rules, refl, length, take, ap}
 use Rattle.lanes.specs.Rings.{ring_lanes, ring_depth}
 use Rattle.memories.specs.Cells.{word}
 use Rattle.memories.specs.Rows.{row_size, row_cell}
@@ -25,5 +25,5 @@ returns c =
     (λ k. rw p.0 (c.new.ensures.empty k)) (rw (p.0, c.new.ensures.depth, requests) refl)
     (λ k. rw p.1 (c.new-2.ensures.empty k)) (rw (p.1, c.new-2.ensures.depth, answers) refl)
     (rw (p.2, c.new-3.ensures, words) refl) (λ a. rw (p.2, c.new-3.ensures, words) (ap word (zeros 4096 a)))
-    (string_bytes c.play.new.out) (string_bytes c.new-out.result) m.policy.lifetime (script (take 65536 c.args.input.now))
-    c.in_ok-play.ensures.bytes c.new-out.ensures.bytes (rw p.3 c.new-4.ensures)
+    c.play.new.out.items c.new-out.result.items m.policy.lifetime (script (take 65536 c.args.input.now))
+    c.in_ok-play.ensures.bytes c.new-out.ensures.items (rw p.3 c.new-4.ensures)
