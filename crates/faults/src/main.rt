@@ -42,7 +42,7 @@ fn main(rt: HostRuntime) -> io::Result<()> {
         Fixed::new(10),
         rt.alloc(),
     )?;
-    let mut out = String::new(rt.alloc());
+    let mut out = Vec::new(rt.alloc());
     play(&mut machine, SCRIPT, &mut out)?;
-    rt.stdout().write_all(out.as_bytes())
+    rt.stdout().write_all(&out)
 }

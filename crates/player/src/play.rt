@@ -2,6 +2,7 @@
 ghost use Rattle.std.specs.Prelude.{◌≡◌, ℕ, [], ◌++◌, take, is_ok, if◌then◌else◌, OnOk, OnErr};
 ghost use Rattle.std.specs.Result.{result_ok};
 ghost use Rattle.machine.specs.View.{view};
+ghost use Rattle.script.specs.declared.reader.TheConstants.{INPUT_BYTES};
 ghost use Rattle.script.specs.OutputLines.{output_line};
 ghost use Rattle.script.specs.Lines.{script};
 ghost use Rattle.player.specs.Played.{Begun, line_after, lines_after, played, read_line_outcome};
@@ -59,9 +60,9 @@ pub fn play<Q: LaneNet<Request>, R: LaneNet<Answer>, M: Memory>(
     input: &[u8],
     out: &mut Vec<u8>,
 ) -> Result<(), AllocError>
-    ensures bytes { OnOk result (out.new.items ≡ out.old.items ++ played (view Q.LaneNet R.LaneNet M.Memory machine.old) machine.old.policy.lifetime 0 (script (take 65536 input.now))) }
-    ensures after { OnOk result (view Q.LaneNet R.LaneNet M.Memory machine.new ≡ lines_after (view Q.LaneNet R.LaneNet M.Memory machine.old) machine.old.policy.lifetime (script (take 65536 input.now))) }
-    ensures begun { OnErr result (Begun (view Q.LaneNet R.LaneNet M.Memory machine.old) machine.old.policy.lifetime (script (take 65536 input.now)) (view Q.LaneNet R.LaneNet M.Memory machine.new) (out.old.items) (out.new.items)) }
+    ensures bytes { OnOk result (out.new.items ≡ out.old.items ++ played (view Q.LaneNet R.LaneNet M.Memory machine.old) machine.old.policy.lifetime 0 (script (take INPUT_BYTES input.now))) }
+    ensures after { OnOk result (view Q.LaneNet R.LaneNet M.Memory machine.new ≡ lines_after (view Q.LaneNet R.LaneNet M.Memory machine.old) machine.old.policy.lifetime (script (take INPUT_BYTES input.now))) }
+    ensures begun { OnErr result (Begun (view Q.LaneNet R.LaneNet M.Memory machine.old) machine.old.policy.lifetime (script (take INPUT_BYTES input.now)) (view Q.LaneNet R.LaneNet M.Memory machine.new) (out.old.items) (out.new.items)) }
     ensures same { machine.new.policy.lifetime ≡ machine.old.policy.lifetime }
 {
     let mut told = OutputLine::new();

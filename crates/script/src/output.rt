@@ -1,6 +1,7 @@
 //! The lines of the output: each tells what a line of the script came to.
 ghost use Rattle.std.specs.Prelude.{◌≡◌, ◌+◌, ◌≤◌, [], ◌++◌, length, codes, decimal};
 ghost use Rattle.calls.specs.Texts.{outcome_text, delivered_text, pair};
+ghost use Rattle.script.specs.declared.output.TheConstants.{ROOM};
 ghost use Rattle.script.specs.OutputLines.{output_line};
 
 use calls::outcome::{Delivered, Outcome};
@@ -19,12 +20,13 @@ pub struct OutputLine {
 
 impl Model for OutputLine {
     ghost use Rattle.std.specs.Prelude.{ℕ, List, drop, ◌≤◌};
+    ghost use Rattle.script.specs.declared.output.TheConstants.{ROOM};
 
     ghost Value = { List ℕ };
 
     ghost view = { λ line. drop line.start line.bytes };
 
-    ghost invariant = { λ line. line.start ≤ 100 };
+    ghost invariant = { λ line. line.start ≤ ROOM };
 }
 
 impl OutputLine {
@@ -66,7 +68,7 @@ impl OutputLine {
     /// Puts a text before the line.
     #[inline(always)]
     fn prepend(&mut self, text: &[u8])
-        requires { length text.now + length self.old ≤ 100 }
+        requires { length text.now + length self.old ≤ ROOM }
         ensures { self.new ≡ text.now ++ self.old }
     {
         let start = self.start - text.len();
@@ -76,7 +78,7 @@ impl OutputLine {
 
     /// Puts a number before the line.
     fn prepend_number(&mut self, number: u64)
-        requires { length self.old + 20 ≤ 100 }
+        requires { length self.old + 20 ≤ ROOM }
         ensures line { self.new ≡ decimal number ++ self.old }
         ensures short { length self.new ≤ length self.old + 20 }
     {
@@ -85,7 +87,7 @@ impl OutputLine {
 
     /// Puts two numbers, a blank apart, before the line.
     fn prepend_pair(&mut self, first: u32, second: u32)
-        requires { length self.old + 41 ≤ 100 }
+        requires { length self.old + 41 ≤ ROOM }
         ensures line { self.new ≡ pair first second ++ self.old }
         ensures short { length self.new ≤ length self.old + 41 }
     {
@@ -96,7 +98,7 @@ impl OutputLine {
 
     /// Puts what a core was handed before the line.
     fn prepend_delivered(&mut self, delivered: Delivered)
-        requires { length self.old + 48 ≤ 100 }
+        requires { length self.old + 48 ≤ ROOM }
         ensures line { self.new ≡ delivered_text delivered ++ self.old }
         ensures short { length self.new ≤ length self.old + 48 }
     {
@@ -123,7 +125,7 @@ impl OutputLine {
     /// Puts what a call came to before the line.
     #[tactic(auto, using(crate::proofs::Lengths::text_length))]
     fn prepend_outcome(&mut self, outcome: Outcome)
-        requires { length self.old + 60 ≤ 100 }
+        requires { length self.old + 60 ≤ ROOM }
         ensures line { self.new ≡ outcome_text outcome ++ self.old }
         ensures short { length self.new ≤ length self.old + 60 }
     {

@@ -2,6 +2,7 @@ use Rattle.std.proofs.Common.{◌≡◌, ◌+◌, ◌∷◌, [], length, take, a
 use Rattle.std.specs.Iterator.Adapters.{zip_second}
 use Rattle.std.specs.Result.{result_ok}
 use Rattle.machine.specs.View.{view}
+use Rattle.script.specs.declared.reader.TheConstants.{INPUT_BYTES}
 use Rattle.script.specs.Lines.{script}
 use Rattle.player.specs.Played.{Begun, line_outcome, read_line_outcome}
 use Rattle.player.proofs.Lines.{as_read, next_line, no_line, only_no_call}
@@ -36,7 +37,7 @@ returns-in_err-turn-clause-begun g c =
     let here = zip_second c.loop-number.number-iterator in
     let next = zip_second c.next.new.self in
     let line : script here ≡ result_ok c.in-Some.line ∷ script next = next_line here next c.in-Some.line c.in-Some.ensures.steps.1 in
-    let begun : Begun (view g.Q.LaneNet g.R.LaneNet g.M.Memory c.args.machine.now) c.args.machine.now.policy.lifetime (script (take 65536 c.args.input.now))
+    let begun : Begun (view g.Q.LaneNet g.R.LaneNet g.M.Memory c.args.machine.now) c.args.machine.now.policy.lifetime (script (take INPUT_BYTES c.args.input.now))
     (view g.Q.LaneNet g.R.LaneNet g.M.Memory c.turn.new.machine) c.args.out.now.items c.turn.new.out.items = record {
       written = n;
       fewer = fewer_played n _ _ _ (c.loop-number.invariant.5 ∙ line);
