@@ -52,15 +52,14 @@ fn calls_of(heap: Global, words: &[u32]) -> Result<Vec<Call>, AllocError> {
         .collect(heap)
 }
 
-/// A number for what a call came to: a value, the clock or a refusal's number, else 0. (C takes a
+/// A number for what a call came to: a value, the clock or its cause's number, else 0. (C takes a
 /// number.)
 fn worth(outcome: Outcome) -> u32 {
     match outcome {
         Outcome::Hit { value, .. } => value,
         Outcome::Delivered(Delivered::Load { value, .. }) => value,
         Outcome::Ticked(clock) => clock,
-        Outcome::Refused(refusal) => u32::from(refusal),
-        _ => 0,
+        _ => outcome.cause().map_or(0, u32::from),
     }
 }
 

@@ -1,6 +1,7 @@
 //! What a call comes to.
-ghost use Rattle.std.specs.Prelude.{Some};
-ghost use Rattle.calls.specs.Answers.{handed, answer_of};
+ghost use Rattle.std.specs.Prelude.{◌≡◌, Some};
+ghost use Rattle.calls.specs.Causes.{delivered_cause, outcome_cause};
+ghost use Rattle.calls.specs.Texts.{delivered_text, outcome_text};
 
 use crate::refusal::Refusal;
 use std::fmt;
@@ -38,8 +39,37 @@ pub enum Outcome {
     Refused(Refusal),
 }
 
+impl Delivered {
+    /// The cause that this tells: 11 with the block and the address of a fault, and none else.
+    pub fn cause(self) -> Option<Refusal>
+        ensures { result ≡ delivered_cause self }
+    {
+        match self {
+            Delivered::Load { .. } | Delivered::Store { .. } | Delivered::Atomic { .. } => None,
+            Delivered::Fault { address, block, .. } => Some(Refusal::Unreadable { block, address }),
+        }
+    }
+}
+
+impl Outcome {
+    /// The cause that this tells: a refusal's own, 11 of a fault that was handed over, and none else.
+    pub fn cause(self) -> Option<Refusal>
+        ensures { result ≡ outcome_cause self }
+    {
+        match self {
+            Outcome::Refused(refusal) => Some(refusal),
+            Outcome::Delivered(delivered) => delivered.cause(),
+            Outcome::Started
+            | Outcome::Hit { .. }
+            | Outcome::Sent
+            | Outcome::Served
+            | Outcome::Ticked(_) => None,
+        }
+    }
+}
+
 impl fmt::Display for Delivered {
-    ghost output = { λ delivered. Some (handed delivered) };
+    ghost output = { λ delivered. Some (delivered_text delivered) };
 
     fn fmt<W: fmt::Write>(&self, f: &mut fmt::Formatter<W>) -> fmt::Result {
         match self {
@@ -52,7 +82,7 @@ impl fmt::Display for Delivered {
 }
 
 impl fmt::Display for Outcome {
-    ghost output = { λ outcome. Some (answer_of outcome) };
+    ghost output = { λ outcome. Some (outcome_text outcome) };
 
     fn fmt<W: fmt::Write>(&self, f: &mut fmt::Formatter<W>) -> fmt::Result {
         match self {

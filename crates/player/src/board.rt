@@ -1,5 +1,7 @@
-//! The machine of tcrun: 4,096 zero words, rings of depth 32, and lifetime 10.
-ghost use Rattle.std.specs.Prelude.{◌≡◌, take, replicate, IfOk, string_bytes};
+//! The machine of tcrun: zero words, rings of depth 32, and lifetime 10.
+ghost use Rattle.std.specs.Prelude.{◌≡◌, take, replicate, IfOk};
+ghost use Rattle.sizes.specs.declared.TheConstants.{WORDS};
+ghost use Rattle.script.specs.declared.reader.TheConstants.{INPUT_BYTES};
 ghost use Rattle.script.specs.Lines.{script};
 ghost use Rattle.player.specs.Played.{played};
 ghost use Rattle.player.specs.Board.{board};
@@ -12,22 +14,26 @@ use machine::tables::Tables;
 use memories::words::Words;
 use messages::answer::Answer;
 use messages::request::Request;
+use sizes::{LANES, WORDS};
 use std::alloc::{AllocError, Global};
 
-/// The memory: 4,096 zero words.
+/// How many messages a lane of tcrun's nets takes.
+const DEPTH: usize = 32;
+
+/// The memory: zero words.
 fn zero_words(heap: Global) -> Result<Vec<u32>, AllocError>
-    ensures { IfOk result (λ words. words.items ≡ replicate 4096 0) }
+    ensures { IfOk result (λ words. words.items ≡ replicate WORDS 0) }
 {
-    vec![in heap; 0u32; 4096]
+    vec![in heap; 0u32; WORDS]
 }
 
 /// What tcrun writes for an input. (The benchmark's library has such rows too. A machine borrows them, and
 /// a function that lent one to a closure would be no shorter.)
-pub fn run(heap: Global, input: &[u8]) -> Result<String, AllocError>
-    ensures { IfOk result (λ t. string_bytes t ≡ played board 10 0 (script (take 65536 input.now))) }
+pub fn run(heap: Global, input: &[u8]) -> Result<Vec<u8>, AllocError>
+    ensures { IfOk result (λ out. out.items ≡ played board 10 0 (script (take INPUT_BYTES input.now))) }
 {
-    let mut requests = vec![in heap; Request::FILLER; 512]?;
-    let mut answers = vec![in heap; Answer::FILLER; 512]?;
+    let mut requests = vec![in heap; Request::FILLER; LANES * DEPTH]?;
+    let mut answers = vec![in heap; Answer::FILLER; LANES * DEPTH]?;
     let mut words = zero_words(heap)?;
     let tables = Tables::new(heap)?;
     let mut machine = Machine::new(
@@ -39,7 +45,7 @@ pub fn run(heap: Global, input: &[u8]) -> Result<String, AllocError>
         },
         tables,
     );
-    let mut out = String::new(heap);
+    let mut out = Vec::new(heap);
     play(&mut machine, input, &mut out)?;
     Ok(out)
 }

@@ -1,10 +1,11 @@
 //! A script played on a machine with a fixed lifetime.
-ghost use Rattle.std.specs.Prelude.{◌≡◌, ℕ, [], ◌++◌, take, is_ok, if◌then◌else◌, string_bytes, OnOk, OnErr};
+ghost use Rattle.std.specs.Prelude.{◌≡◌, ℕ, [], ◌++◌, take, is_ok, if◌then◌else◌, OnOk, OnErr};
 ghost use Rattle.std.specs.Result.{result_ok};
 ghost use Rattle.machine.specs.View.{view};
-ghost use Rattle.script.specs.Answers.{answer_line};
+ghost use Rattle.script.specs.declared.reader.TheConstants.{INPUT_BYTES};
+ghost use Rattle.script.specs.OutputLines.{output_line};
 ghost use Rattle.script.specs.Lines.{script};
-ghost use Rattle.player.specs.Played.{Begun, line_after, lines_after, played, read_answer};
+ghost use Rattle.player.specs.Played.{Begun, line_after, lines_after, played, read_line_outcome};
 
 use calls::call::Call;
 use calls::outcome::Outcome;
@@ -15,7 +16,7 @@ use machine::machine::Machine;
 use memories::memory::Memory;
 use messages::answer::Answer;
 use messages::request::Request;
-use script::answer::AnswerWriter;
+use script::output::OutputLine;
 use script::reader::Reader;
 use std::alloc::AllocError;
 
@@ -24,7 +25,7 @@ fn play_line<Q: LaneNet<Request>, R: LaneNet<Answer>, M: Memory>(
     machine: &mut Machine<Q, R, M, Fixed>,
     line: Result<Call, Refusal>,
 ) -> Outcome
-    ensures answer { result ≡ read_answer (view Q.LaneNet R.LaneNet M.Memory machine.old) machine.old.policy.lifetime line }
+    ensures answer { result ≡ read_line_outcome (view Q.LaneNet R.LaneNet M.Memory machine.old) machine.old.policy.lifetime line }
     ensures after { view Q.LaneNet R.LaneNet M.Memory machine.new ≡ line_after (view Q.LaneNet R.LaneNet M.Memory machine.old) machine.old.policy.lifetime (result_ok line) }
     ensures same { machine.new.policy.lifetime ≡ machine.old.policy.lifetime }
 {
@@ -39,15 +40,16 @@ fn turn<Q: LaneNet<Request>, R: LaneNet<Answer>, M: Memory>(
     machine: &mut Machine<Q, R, M, Fixed>,
     line: Result<Call, Refusal>,
     number: usize,
-    writer: &mut AnswerWriter,
-    out: &mut String,
+    told: &mut OutputLine,
+    out: &mut Vec<u8>,
 ) -> Result<(), AllocError>
-    ensures bytes { string_bytes out.new ≡ (if is_ok result then string_bytes out.old ++ answer_line number (read_answer (view Q.LaneNet R.LaneNet M.Memory machine.old) machine.old.policy.lifetime line) else string_bytes out.old) }
+    ensures bytes { out.new.items ≡ (if is_ok result then out.old.items ++ output_line number (read_line_outcome (view Q.LaneNet R.LaneNet M.Memory machine.old) machine.old.policy.lifetime line) else out.old.items) }
     ensures after { view Q.LaneNet R.LaneNet M.Memory machine.new ≡ line_after (view Q.LaneNet R.LaneNet M.Memory machine.old) machine.old.policy.lifetime (result_ok line) }
     ensures same { machine.new.policy.lifetime ≡ machine.old.policy.lifetime }
 {
     let outcome = play_line(machine, line);
-    writer.write_line(out, number, outcome)
+    told.set(number, outcome);
+    out.extend_from_slice(told.as_bytes())
 }
 
 /// Plays a script from its first line on, and adds a line for each of its lines. Where memory is short
@@ -55,16 +57,16 @@ fn turn<Q: LaneNet<Request>, R: LaneNet<Answer>, M: Memory>(
 pub fn play<Q: LaneNet<Request>, R: LaneNet<Answer>, M: Memory>(
     machine: &mut Machine<Q, R, M, Fixed>,
     input: &[u8],
-    out: &mut String,
+    out: &mut Vec<u8>,
 ) -> Result<(), AllocError>
-    ensures bytes { OnOk result (string_bytes out.new ≡ string_bytes out.old ++ played (view Q.LaneNet R.LaneNet M.Memory machine.old) machine.old.policy.lifetime 0 (script (take 65536 input.now))) }
-    ensures after { OnOk result (view Q.LaneNet R.LaneNet M.Memory machine.new ≡ lines_after (view Q.LaneNet R.LaneNet M.Memory machine.old) machine.old.policy.lifetime (script (take 65536 input.now))) }
-    ensures begun { OnErr result (Begun (view Q.LaneNet R.LaneNet M.Memory machine.old) machine.old.policy.lifetime (script (take 65536 input.now)) (view Q.LaneNet R.LaneNet M.Memory machine.new) (string_bytes out.old) (string_bytes out.new)) }
+    ensures bytes { OnOk result (out.new.items ≡ out.old.items ++ played (view Q.LaneNet R.LaneNet M.Memory machine.old) machine.old.policy.lifetime 0 (script (take INPUT_BYTES input.now))) }
+    ensures after { OnOk result (view Q.LaneNet R.LaneNet M.Memory machine.new ≡ lines_after (view Q.LaneNet R.LaneNet M.Memory machine.old) machine.old.policy.lifetime (script (take INPUT_BYTES input.now))) }
+    ensures begun { OnErr result (Begun (view Q.LaneNet R.LaneNet M.Memory machine.old) machine.old.policy.lifetime (script (take INPUT_BYTES input.now)) (view Q.LaneNet R.LaneNet M.Memory machine.new) (out.old.items) (out.new.items)) }
     ensures same { machine.new.policy.lifetime ≡ machine.old.policy.lifetime }
 {
-    let mut writer = AnswerWriter::new(*out.allocator());
+    let mut told = OutputLine::new();
     for (number, line) in (1..).zip(Reader::new(input)) {
-        turn(machine, line, number, &mut writer, out)?;
+        turn(machine, line, number, &mut told, out)?;
     }
     Ok(())
 }

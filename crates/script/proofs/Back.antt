@@ -8,6 +8,7 @@ use Rattle.std.proofs.lemmas.Fmt.{digits_decimal}
 use Rattle.std.proofs.lemmas.List.{take_all}
 use Rattle.std.proofs.lemmas.Bool.{eq-eqb, ne_eqb}
 use Rattle.std.specs.List.{AllByRecursion}
+use Rattle.script.specs.declared.reader.TheConstants.{INPUT_BYTES}
 use Rattle.script.specs.Fields.{split, onto, bind, first, others}
 use Rattle.script.specs.Lines.{letter_of, start_of, call_of, parse_line, script}
 use Rattle.script.specs.Written.{Words, sign, letter, fields, spaced, written, lines, Back, AllBack}
@@ -103,8 +104,8 @@ read_lines (c ∷ cs) h =
 pub back : (line : List ℕ) (r : Option Call) → r ≡ parse_line line → Back line r
 back line r e c h w = e ∙ ap parse_line w ∙ parse_written c h
 
-pub all_back : (input read : List ℕ) → read ≡ take 65536 input → AllBack input read
-all_back input read e cs h w short = ap script (e ∙ take_all 65536 input short ∙ w) ∙ read_lines cs h
+pub all_back : (input read : List ℕ) → read ≡ take INPUT_BYTES input → AllBack input read
+all_back input read e cs h w short = ap script (e ∙ take_all INPUT_BYTES input short ∙ w) ∙ read_lines cs h
 
-pub few : (input read : List ℕ) → read ≡ take 65536 input → length (script read) ≤ 65536
-few input read e = omega (arith, script_length read, ap length e, length-take 65536 input)
+pub few : (input read : List ℕ) → read ≡ take INPUT_BYTES input → length (script read) ≤ INPUT_BYTES
+few input read e = omega (arith, script_length read, ap length e, length-take INPUT_BYTES input)

@@ -1,3 +1,4 @@
 pub mod Back
+pub mod Lengths
 pub mod Numbers
 pub mod Splits

@@ -1,4 +1,4 @@
-pub mod Answers
 pub mod Fields
 pub mod Lines
+pub mod OutputLines
 pub mod Written

@@ -5,6 +5,7 @@ use Rattle.calls.specs.declared.call.Call.TheVariants.{Start, Load, Store, Serve
 use Rattle.calls.specs.declared.call.Protocol.{Protocol}
 use Rattle.calls.specs.declared.call.Protocol.TheVariants.{Strong, Weak}
 use Rattle.std.specs.List.{AllByRecursion}
+use Rattle.script.specs.declared.reader.TheConstants.{INPUT_BYTES}
 use Rattle.script.specs.Lines.{script}
 
 -- the numbers of a call fit a word
@@ -58,4 +59,4 @@ Back line r = (c : Call) → Words c → line ≡ written c → r ≡ Some c
 
 -- an input that writes calls has just those lines, where it is not longer than what is read of it
 abbrev pub AllBack : List ℕ → List ℕ → Type 0
-AllBack input read = (cs : List Call) → AllByRecursion Words cs → input ≡ lines cs → length input ≤ 65536 → script read ≡ map (λ c. Some c) cs
+AllBack input read = (cs : List Call) → AllByRecursion Words cs → input ≡ lines cs → length input ≤ INPUT_BYTES → script read ≡ map (λ c. Some c) cs

@@ -1,20 +1,9 @@
 //! Bytes: cut at one, and the numbers that they write.
-ghost use Rattle.std.specs.Prelude.{◌≡◌, ◌∷◌, take};
+ghost use Rattle.std.specs.Prelude.{◌≡◌, ◌∷◌};
 ghost use Rattle.std.specs.Char.{is_ascii_digit};
 ghost use Rattle.std.specs.List.{list_all};
 ghost use Rattle.std.specs.Option.{option_map};
 ghost use Rattle.script.specs.Fields.{split, left, number};
-
-/// The most bytes of an input that are read.
-const MOST: usize = 65536;
-
-/// The first 65,536 bytes, or all where there are fewer.
-#[tactic(auto, using(crate::proofs::Splits::take_few))]
-pub(crate) fn limited(bytes: &[u8]) -> &[u8]
-    ensures { result.now ≡ take 65536 bytes.now }
-{
-    &bytes[..MOST.min(bytes.len())]
-}
 
 /// The bytes before the first byte `b`, and those after it; all, where there is none.
 pub(crate) fn cut(bytes: &[u8], b: u8) -> (&[u8], Option<&[u8]>)

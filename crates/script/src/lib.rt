@@ -1,8 +1,8 @@
 //! The lines of a script as calls, and the lines that tell their outcomes.
 #![tactic(auto)]
 
-pub mod answer;
 mod bytes;
 mod fields;
 pub mod line;
+pub mod output;
 pub mod reader;

@@ -1,14 +1,26 @@
 //! A script, line by line.
 ghost use Rattle.std.specs.Prelude.{◌≡◌, ◌≤◌, length, take};
 ghost use Rattle.std.specs.Iterator.{YieldsFirst, item_count};
+ghost use Rattle.script.specs.declared.reader.TheConstants.{INPUT_BYTES};
 ghost use Rattle.script.specs.Lines.{script, script_calls};
 ghost use Rattle.script.specs.Written.{AllBack};
 
-use crate::bytes::{cut, limited};
+use crate::bytes::cut;
 use crate::line::parse;
 use calls::call::Call;
 use calls::refusal::Refusal;
 use std::marker::Model;
+
+/// How many bytes of an input are read: 64 KiB.
+pub const INPUT_BYTES: usize = 65536;
+
+/// The first `INPUT_BYTES` bytes, or all where there are fewer.
+#[tactic(auto, using(crate::proofs::Splits::take_few))]
+fn limited(input: &[u8]) -> &[u8]
+    ensures { result.now ≡ take INPUT_BYTES input.now }
+{
+    &input[..INPUT_BYTES.min(input.len())]
+}
 
 /// The bytes of a script that are still to be read. Its items are the lines: the call that a line
 /// writes, or the refusal of one that is no call.
@@ -26,10 +38,10 @@ impl<'a> Model for Reader<'a> {
 }
 
 impl<'a> Reader<'a> {
-    /// Reads the first 65,536 bytes of an input.
+    /// Reads the first `INPUT_BYTES` bytes of an input.
     pub fn new(input: &'a [u8]) -> Reader<'a>
-        ensures value { result ≡ take 65536 input.now }
-        ensures few { length (script result) ≤ 65536 }
+        ensures value { result ≡ take INPUT_BYTES input.now }
+        ensures few { length (script result) ≤ INPUT_BYTES }
         ensures back { AllBack input.now result }
     {
         Reader {

@@ -2,8 +2,8 @@
 use calls::call::{Call, Protocol};
 use calls::outcome::{Delivered, Outcome};
 use calls::refusal::Refusal;
-use script::answer::AnswerWriter;
-use script::reader::Reader;
+use script::output::OutputLine;
+use script::reader::{INPUT_BYTES, Reader};
 use std::test::Fail;
 
 #[test]
@@ -53,10 +53,10 @@ fn some_lines_are_no_calls(rt: HostRuntime) {
 }
 
 #[test]
-fn a_script_ends_at_65536_bytes(rt: HostRuntime) {
-    let input = [b'\n'; 65537];
+fn a_script_ends_after_the_bytes_that_are_read(rt: HostRuntime) {
+    let input = [b'\n'; INPUT_BYTES + 1];
     let mut reader = Reader::new(&input);
-    for _ in 0..65536 {
+    for _ in 0..INPUT_BYTES {
         assert_eq!(rt; reader.next(), Some(Err(Refusal::NotACall)));
     }
     assert_eq!(rt; reader.next(), None);
@@ -65,7 +65,7 @@ fn a_script_ends_at_65536_bytes(rt: HostRuntime) {
 #[test]
 fn answers_are_lines(rt: HostRuntime) -> Result<(), Fail> {
     let (wave, address, value, block) = (9, 5, 7, 1);
-    let mut out = String::new(rt.alloc());
+    let mut out = Vec::new(rt.alloc());
     let outcomes = [
         Outcome::Started,
         Outcome::Sent,
@@ -91,13 +91,28 @@ fn answers_are_lines(rt: HostRuntime) -> Result<(), Fail> {
         Outcome::Ticked(4294967295),
         Outcome::Refused(Refusal::Unreadable { block, address }),
     ];
-    let mut writer = AnswerWriter::new(*out.allocator());
+    let mut line = OutputLine::new();
     for (number, outcome) in (1..).zip(outcomes) {
-        writer.write_line(&mut out, number, outcome)?;
+        line.set(number, outcome);
+        out.extend_from_slice(line.as_bytes())?;
     }
     assert_eq!(rt;
-        out.as_str(),
-        "1 started\n2 sent\n3 served\n4 load 5 0\n5 load 5 7\n6 refused 7 lease still runs\n7 store 5\n8 atomic 5 7\n9 fault 5 1\n10 tick 4294967295\n11 refused 11 word unreadable\n"
+        out.as_slice(),
+        b"1 started\n2 sent\n3 served\n4 load 5 0\n5 load 5 7\n6 refused 7 lease still runs\n7 store 5\n8 atomic 5 7\n9 fault 5 1\n10 tick 4294967295\n11 refused 11 word unreadable\n"
     );
     Ok(())
+}
+
+#[test]
+fn outcomes_tell_their_causes(rt: HostRuntime) {
+    let (wave, address, block) = (9, 5, 1);
+    let fault = Outcome::Delivered(Delivered::Fault {
+        wave,
+        address,
+        block,
+    });
+    assert_eq!(rt; fault.cause(), Some(Refusal::Unreadable { block, address }));
+    assert_eq!(rt; Outcome::Refused(Refusal::LeaseRuns).cause(), Some(Refusal::LeaseRuns));
+    assert_eq!(rt; Outcome::Delivered(Delivered::Store { wave, address }).cause(), None);
+    assert_eq!(rt; Outcome::Sent.cause(), None);
 }

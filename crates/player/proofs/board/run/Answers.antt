@@ -1,8 +1,10 @@
-use Rattle.std.proofs.Common.{◌≡◌, replicate, rules, refl, length, take, string_bytes, ap, ◌∙◌}
+use Rattle.std.proofs.Common.{◌≡◌, replicate, rules, refl, length, take, ap, ◌∙◌}
 use Rattle.lanes.specs.Rings.{ring_lanes, ring_depth}
 use Rattle.memories.specs.Cells.{word}
 use Rattle.memories.specs.Rows.{row_size, row_cell}
+use Rattle.sizes.specs.declared.TheConstants.{WORDS}
 use Rattle.rules.specs.State.{State}
+use Rattle.script.specs.declared.reader.TheConstants.{INPUT_BYTES}
 use Rattle.script.specs.Lines.{script}
 use Rattle.player.proofs.Boards.{zeros, on_board}
 use Rattle.player.proofs.board.run.Goals as goal
@@ -11,7 +13,7 @@ pub returns : goal.returns
 returns c =
     let requests : length c.as_mut_slice.result.now ≡ 512 = search rules in
     let answers : length c.as_mut_slice-2.result.now ≡ 512 = search rules in
-    let words : c.as_mut_slice-3.result.now ≡ replicate 4096 0 = search rules in
+    let words : c.as_mut_slice-3.result.now ≡ replicate WORDS 0 = search rules in
     let m = c.new-machine.result in
     let p = c.new-machine.ensures in
     let s : State = record {
@@ -23,6 +25,6 @@ returns c =
     on_board s (p.tables ∙ c.in_ok-tables.ensures)
     (λ k. rw p.requests (c.new-2.ensures.empty k)) (rw (p.requests, c.new-2.ensures.depth, requests) refl)
     (λ k. rw p.answers (c.new-3.ensures.empty k)) (rw (p.answers, c.new-3.ensures.depth, answers) refl)
-    (rw (p.memory, c.new-4.ensures, words) refl) (λ a. rw (p.memory, c.new-4.ensures, words) (ap word (zeros 4096 a)))
-    (string_bytes c.play.new.out) (string_bytes c.new-out.result) m.policy.lifetime (script (take 65536 c.args.input.now))
-    c.in_ok-play.ensures.bytes c.new-out.ensures.bytes (rw p.policy c.new-5.ensures)
+    (rw (p.memory, c.new-4.ensures, words) refl) (λ a. rw (p.memory, c.new-4.ensures, words) (ap word (zeros WORDS a)))
+    c.play.new.out.items c.new-out.result.items m.policy.lifetime (script (take INPUT_BYTES c.args.input.now))
+    c.in_ok-play.ensures.bytes c.new-out.ensures.items (rw p.policy c.new-5.ensures)

@@ -1,9 +1,10 @@
-use Rattle.std.proofs.Common.{◌≡◌, ◌+◌, ◌∷◌, [], length, take, string_bytes, ap, ◌∙◌, inl, inr, length-append, arith}
+use Rattle.std.proofs.Common.{◌≡◌, ◌+◌, ◌∷◌, [], length, take, ap, ◌∙◌, inl, inr, length-append, arith}
 use Rattle.std.specs.Iterator.Adapters.{zip_second}
 use Rattle.std.specs.Result.{result_ok}
 use Rattle.machine.specs.View.{view}
+use Rattle.script.specs.declared.reader.TheConstants.{INPUT_BYTES}
 use Rattle.script.specs.Lines.{script}
-use Rattle.player.specs.Played.{Begun, line_answer, read_answer}
+use Rattle.player.specs.Played.{Begun, line_outcome, read_line_outcome}
 use Rattle.player.proofs.Lines.{as_read, next_line, no_line, only_no_call}
 use Rattle.player.proofs.Longer.{one_added, one_after, more_after, fewer_played, all_taken, on_err}
 use Rattle.player.proofs.play.play.Goals as goal
@@ -18,7 +19,7 @@ loop-number-preserved g c =
     let number : c.in-Some.number ≡ n + 1 = c.in-Some.ensures.steps.0.0 ∙ c.loop-number.invariant.0 in
     let s = view g.Q.LaneNet g.R.LaneNet g.M.Memory c.loop-number.machine in
     let life = c.loop-number.machine.policy.lifetime in
-    let read : read_answer s life c.in-Some.line ≡ line_answer s life (result_ok c.in-Some.line) =
+    let read : read_line_outcome s life c.in-Some.line ≡ line_outcome s life (result_ok c.in-Some.line) =
     as_read s life c.in-Some.line (only_no_call here next c.in-Some.line c.in-Some.ensures.steps.1) in
     rw (length-append c.loop-number.yielded ((c.in-Some.number, c.in-Some.line) ∷ [])) (
       c.in-Some.ensures.steps.0.1 ∙ ap (λ k. k + 1) number,
@@ -36,8 +37,8 @@ returns-in_err-turn-clause-begun g c =
     let here = zip_second c.loop-number.number-iterator in
     let next = zip_second c.next.new.self in
     let line : script here ≡ result_ok c.in-Some.line ∷ script next = next_line here next c.in-Some.line c.in-Some.ensures.steps.1 in
-    let begun : Begun (view g.Q.LaneNet g.R.LaneNet g.M.Memory c.args.machine.now) c.args.machine.now.policy.lifetime (script (take 65536 c.args.input.now))
-    (view g.Q.LaneNet g.R.LaneNet g.M.Memory c.turn.new.machine) (string_bytes c.args.out.now) (string_bytes c.turn.new.out) = record {
+    let begun : Begun (view g.Q.LaneNet g.R.LaneNet g.M.Memory c.args.machine.now) c.args.machine.now.policy.lifetime (script (take INPUT_BYTES c.args.input.now))
+    (view g.Q.LaneNet g.R.LaneNet g.M.Memory c.turn.new.machine) c.args.out.now.items c.turn.new.out.items = record {
       written = n;
       fewer = fewer_played n _ _ _ (c.loop-number.invariant.5 ∙ line);
       text = c.in_err-turn.ensures.bytes ∙ c.loop-number.invariant.3;
