@@ -1,20 +1,13 @@
 -- Two nets, one behind the other.
-use Rattle.std.specs.Prelude.{◌≡◌, ℕ, ◌+◌, ◌^◌, ◌≤◌, min, cond, List, [], ◌++◌, length, nat_lt}
+use Rattle.std.specs.Prelude.{◌≡◌, ℕ, ◌+◌, ◌≤◌, min, List, [], ◌++◌}
 use Rattle.std.proofs.Common.{arith}
 use Rattle.hops.specs.declared.hop.Hop.{Hop}
 use Rattle.lanes.specs.declared.net.LaneNet as net
 
--- messages too many for a count of 64 bits count as none
-abbrev pub counted : {A : Type 0} → List A → List A
-counted xs = cond (nat_lt (length xs) (2 ^ 64)) xs []
-
 module _ {F N A : Type 0} (f : net.Ghosts F A) (n : net.Ghosts N A) where
   -- the far list, then the near list
-  abbrev pub both : Hop F N → ℕ → List A
-  both s k = f.lanes s.far k ++ n.lanes s.near k
-
   abbrev pub hop_lanes : Hop F N → ℕ → List A
-  hop_lanes s k = counted (both s k)
+  hop_lanes s k = f.lanes s.far k ++ n.lanes s.near k
 
   -- the depths of both nets, added, at most 64
   abbrev pub hop_depth : Hop F N → ℕ

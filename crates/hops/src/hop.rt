@@ -1,7 +1,6 @@
 //! Two nets, one behind the other.
-ghost use Rattle.std.specs.Prelude.{◌≡◌, ℕ, ◌+◌, ◌<◌, ◌≤◌, [], length};
-ghost use Rattle.lanes.specs.Lanes.{with_lane};
-ghost use Rattle.hops.specs.Hops.{KeepsDepths, both, hop_bare, hop_depth, hop_lanes, hop_shallow};
+ghost use Rattle.std.specs.Prelude.{◌≡◌, ℕ, ◌+◌, ◌<◌, ◌≤◌, length};
+ghost use Rattle.hops.specs.Hops.{KeepsDepths, hop_bare, hop_depth, hop_lanes, hop_shallow};
 
 use lanes::net::{LaneError, LaneNet};
 
@@ -22,29 +21,13 @@ impl<F, N> Hop<F, N> {
         Hop { far, near }
     }
 
-    /// Empties a lane whose messages are too many to count.
-    fn settle<M: Drop>(&mut self, lane: u32)
-    where
-        F: LaneNet<M>,
-        N: LaneNet<M>,
-        ensures lanes { (j : ℕ) → hop_lanes F.LaneNet N.LaneNet self.new j ≡ hop_lanes F.LaneNet N.LaneNet self.old j }
-        ensures whole { hop_lanes F.LaneNet N.LaneNet self.new lane ≡ both F.LaneNet N.LaneNet self.new lane }
-        ensures same { KeepsDepths F.LaneNet N.LaneNet self.old self.new }
-    {
-        if self.count(lane) == 0 {
-            clear(&mut self.far, lane);
-            clear(&mut self.near, lane);
-        }
-    }
-
-    /// Moves messages on until the near net takes one, or is empty. (A `while`: only the nets' own counts
-    /// say when it ends.)
+    /// Moves messages on until the near net takes one, or is empty.
     fn make_room<M: Drop>(&mut self, lane: u32)
     where
         F: LaneNet<M>,
         N: LaneNet<M>,
-        requires { length (both F.LaneNet N.LaneNet self.old lane) < F.LaneNet.depth self.old.far + N.LaneNet.depth self.old.near }
-        ensures lanes { (j : ℕ) → both F.LaneNet N.LaneNet self.new j ≡ both F.LaneNet N.LaneNet self.old j }
+        requires { length (hop_lanes F.LaneNet N.LaneNet self.old lane) < F.LaneNet.depth self.old.far + N.LaneNet.depth self.old.near }
+        ensures lanes { (j : ℕ) → hop_lanes F.LaneNet N.LaneNet self.new j ≡ hop_lanes F.LaneNet N.LaneNet self.old j }
         ensures room { N.LaneNet.depth self.new.near ≤ length (N.LaneNet.lanes self.new.near lane) → length (N.LaneNet.lanes self.new.near lane) ≡ 0 }
         ensures same { KeepsDepths F.LaneNet N.LaneNet self.old self.new }
     {
@@ -67,7 +50,6 @@ impl<M: Drop, F: LaneNet<M>, N: LaneNet<M>> LaneNet<M> for Hop<F, N> {
 
     fn put(&mut self, lane: u32, message: M) -> Result<(), LaneError> {
         self.room(lane)?;
-        self.settle::<M>(lane);
         self.make_room::<M>(lane);
         if self.near.count(lane) < self.near.depth() {
             self.near.put(lane, message)
@@ -77,16 +59,11 @@ impl<M: Drop, F: LaneNet<M>, N: LaneNet<M>> LaneNet<M> for Hop<F, N> {
     }
 
     fn oldest(&self, lane: u32) -> Option<M> {
-        if self.count(lane) == 0 {
-            return None;
-        }
         self.far.oldest(lane).or_else(|| self.near.oldest(lane))
     }
 
-    // A sum past 64 bits counts as none.
     fn count(&self, lane: u32) -> usize {
-        let (far, near) = (self.far.count(lane), self.near.count(lane));
-        far.checked_add(near).unwrap_or(0)
+        self.far.count(lane).saturating_add(self.near.count(lane))
     }
 
     fn depth(&self) -> usize {
@@ -94,21 +71,9 @@ impl<M: Drop, F: LaneNet<M>, N: LaneNet<M>> LaneNet<M> for Hop<F, N> {
     }
 
     fn take(&mut self, lane: u32) -> Option<M> {
-        if self.count(lane) == 0 {
-            return None;
-        }
-        // not by `or_else`: of what its closure does to the near net, a proof keeps nothing
         match self.far.take(lane) {
             None => self.near.take(lane),
             taken => taken,
         }
     }
-}
-
-/// Empties a lane.
-fn clear<M: Drop, N: LaneNet<M>>(net: &mut N, lane: u32)
-    ensures lanes { (j : ℕ) → N.LaneNet.lanes net.new j ≡ with_lane (N.LaneNet.lanes net.old) lane [] j }
-    ensures same { N.LaneNet.depth net.new ≡ N.LaneNet.depth net.old }
-{
-    while net.take(lane).is_some() {}
 }
