@@ -1,8 +1,10 @@
 //! Two nets, one behind the other.
 ghost use Rattle.std.specs.Prelude.{◌≡◌, ℕ, ◌+◌, ◌<◌, ◌≤◌, length};
-ghost use Rattle.hops.specs.Hops.{KeepsDepths, hop_bare, hop_depth, hop_lanes, hop_shallow};
+ghost use Rattle.hops.specs.HopLaws.{hop_bare, hop_shallow};
+ghost use Rattle.hops.specs.Hops.{KeepsDepths, hop_depth, hop_lanes};
 
 use lanes::net::{LaneError, LaneNet};
+use sizes::LANE_DEPTH;
 
 /// A far net and a near net of the same messages. A message is put into the near one, and moves on
 /// to the far one.
@@ -67,7 +69,7 @@ impl<M: Drop, F: LaneNet<M>, N: LaneNet<M>> LaneNet<M> for Hop<F, N> {
     }
 
     fn depth(&self) -> usize {
-        (self.far.depth() + self.near.depth()).min(64)
+        (self.far.depth() + self.near.depth()).min(LANE_DEPTH)
     }
 
     fn take(&mut self, lane: u32) -> Option<M> {
