@@ -13,6 +13,12 @@ module _ {F N A : Type 0} (f : net.Ghosts F A) (n : net.Ghosts N A) where
   abbrev pub hop_depth : Hop F N → ℕ
   hop_depth s = min (f.depth s.far + n.depth s.near) LANE_DEPTH
 
-  -- both nets keep their depths
-  abbrev pub KeepsDepths : Hop F N → Hop F N → Type 0
-  KeepsDepths s t = (f.depth t.far ≡ f.depth s.far) × (n.depth t.near ≡ n.depth s.near)
+  -- what both nets were lent
+  abbrev pub hop_loan : Hop F N → f.Loan × n.Loan
+  hop_loan s = (f.loan s.far, n.loan s.near)
+
+  -- both nets keep their depths and what they were lent
+  pub record SameNets (s t : Hop F N) : Type 0 where
+    pub far : f.depth t.far ≡ f.depth s.far
+    pub near : n.depth t.near ≡ n.depth s.near
+    pub loan : hop_loan t ≡ hop_loan s

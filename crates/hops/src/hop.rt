@@ -1,7 +1,7 @@
 //! Two nets, one behind the other.
 ghost use Rattle.std.specs.Prelude.{◌≡◌, ℕ, ◌+◌, ◌<◌, ◌≤◌, length};
 ghost use Rattle.hops.specs.HopLaws.{hop_bare, hop_shallow};
-ghost use Rattle.hops.specs.Hops.{KeepsDepths, hop_depth, hop_lanes};
+ghost use Rattle.hops.specs.Hops.{SameNets, hop_depth, hop_lanes, hop_loan};
 
 use lanes::net::{LaneError, LaneNet};
 use sizes::LANE_DEPTH;
@@ -23,6 +23,15 @@ impl<F, N> Hop<F, N> {
         Hop { far, near }
     }
 
+    /// The two nets again.
+    pub fn into_parts(self) -> (F, N)
+        ensures far { result.0 ≡ self.far }
+        ensures near { result.1 ≡ self.near }
+    {
+        let Hop { far, near } = self;
+        (far, near)
+    }
+
     /// Moves messages on until the near net takes one, or is empty.
     fn make_room<M: Drop>(&mut self, lane: u32)
     where
@@ -31,7 +40,7 @@ impl<F, N> Hop<F, N> {
         requires { length (hop_lanes F.LaneNet N.LaneNet self.old lane) < F.LaneNet.depth self.old.far + N.LaneNet.depth self.old.near }
         ensures lanes { (j : ℕ) → hop_lanes F.LaneNet N.LaneNet self.new j ≡ hop_lanes F.LaneNet N.LaneNet self.old j }
         ensures room { N.LaneNet.depth self.new.near ≤ length (N.LaneNet.lanes self.new.near lane) → length (N.LaneNet.lanes self.new.near lane) ≡ 0 }
-        ensures same { KeepsDepths F.LaneNet N.LaneNet self.old self.new }
+        ensures same { SameNets F.LaneNet N.LaneNet self.old self.new }
     {
         while self.near.count(lane) >= self.near.depth().max(1) {
             if let Some(moved) = self.near.take(lane) {
@@ -45,6 +54,10 @@ impl<M: Drop, F: LaneNet<M>, N: LaneNet<M>> LaneNet<M> for Hop<F, N> {
     ghost lanes = { hop_lanes F.LaneNet N.LaneNet };
 
     ghost depth = { hop_depth F.LaneNet N.LaneNet };
+
+    ghost Loan = { F.LaneNet.Loan × N.LaneNet.Loan };
+
+    ghost loan = { hop_loan F.LaneNet N.LaneNet };
 
     ghost shallow = { hop_shallow F.LaneNet.own N.LaneNet.own };
 

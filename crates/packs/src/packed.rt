@@ -37,6 +37,10 @@ impl<M: FiveWords + Drop> LaneNet<M> for Packed<M> {
 
     ghost depth = { λ _. PACKED_DEPTH };
 
+    ghost Loan = { Unit {0} };
+
+    ghost loan = { λ _. tt };
+
     ghost shallow = { λ _. pack_shallow };
 
     ghost bare = { pack_bare M.FiveWords.own };
