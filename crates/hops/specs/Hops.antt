@@ -1,33 +1,24 @@
 -- Two nets, one behind the other.
-use Rattle.std.specs.Prelude.{◌≡◌, ℕ, ◌+◌, ◌^◌, ◌≤◌, min, cond, List, [], ◌++◌, length, nat_lt}
-use Rattle.std.proofs.Common.{arith}
+use Rattle.std.specs.Prelude.{◌≡◌, ℕ, ◌+◌, min, List, ◌++◌}
+use Rattle.sizes.specs.declared.TheConstants.{LANE_DEPTH}
 use Rattle.hops.specs.declared.hop.Hop.{Hop}
 use Rattle.lanes.specs.declared.net.LaneNet as net
 
--- messages too many for a count of 64 bits count as none
-abbrev pub counted : {A : Type 0} → List A → List A
-counted xs = cond (nat_lt (length xs) (2 ^ 64)) xs []
-
 module _ {F N A : Type 0} (f : net.Ghosts F A) (n : net.Ghosts N A) where
   -- the far list, then the near list
-  abbrev pub both : Hop F N → ℕ → List A
-  both s k = f.lanes s.far k ++ n.lanes s.near k
-
   abbrev pub hop_lanes : Hop F N → ℕ → List A
-  hop_lanes s k = counted (both s k)
+  hop_lanes s k = f.lanes s.far k ++ n.lanes s.near k
 
-  -- the depths of both nets, added, at most 64
+  -- the depths of both nets, added, at most LANE_DEPTH
   abbrev pub hop_depth : Hop F N → ℕ
-  hop_depth s = min (f.depth s.far + n.depth s.near) 64
+  hop_depth s = min (f.depth s.far + n.depth s.near) LANE_DEPTH
 
-  -- both nets keep their depths
-  abbrev pub KeepsDepths : Hop F N → Hop F N → Type 0
-  KeepsDepths s t = (f.depth t.far ≡ f.depth s.far) × (n.depth t.near ≡ n.depth s.near)
+  -- what both nets were lent
+  abbrev pub hop_loan : Hop F N → f.Loan × n.Loan
+  hop_loan s = (f.loan s.far, n.loan s.near)
 
-  pub hop_shallow : (s : Hop F N) → hop_depth s ≤ 64
-  hop_shallow s = omega arith
-
-  pub hop_bare :
-      ((s : F) (k : ℕ) → 16 ≤ k → f.lanes s k ≡ []) → ((s : N) (k : ℕ) → 16 ≤ k → n.lanes s k ≡ []) →
-      (s : Hop F N) (k : ℕ) → 16 ≤ k → hop_lanes s k ≡ []
-  hop_bare far near s k h = rw (far s.far k h, near s.near k h)
+  -- both nets keep their depths and what they were lent
+  pub record SameNets (s t : Hop F N) : Type 0 where
+    pub far : f.depth t.far ≡ f.depth s.far
+    pub near : n.depth t.near ≡ n.depth s.near
+    pub loan : hop_loan t ≡ hop_loan s

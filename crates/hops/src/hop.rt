@@ -1,9 +1,10 @@
 //! Two nets, one behind the other.
-ghost use Rattle.std.specs.Prelude.{◌≡◌, ℕ, ◌+◌, ◌<◌, ◌≤◌, [], length};
-ghost use Rattle.lanes.specs.Lanes.{with_lane};
-ghost use Rattle.hops.specs.Hops.{KeepsDepths, both, hop_bare, hop_depth, hop_lanes, hop_shallow};
+ghost use Rattle.std.specs.Prelude.{◌≡◌, ℕ, ◌+◌, ◌<◌, ◌≤◌, length};
+ghost use Rattle.hops.specs.HopLaws.{hop_bare, hop_shallow};
+ghost use Rattle.hops.specs.Hops.{SameNets, hop_depth, hop_lanes, hop_loan};
 
 use lanes::net::{LaneError, LaneNet};
+use sizes::LANE_DEPTH;
 
 /// A far net and a near net of the same messages. A message is put into the near one, and moves on
 /// to the far one.
@@ -22,31 +23,24 @@ impl<F, N> Hop<F, N> {
         Hop { far, near }
     }
 
-    /// Empties a lane whose messages are too many to count.
-    fn settle<M: Drop>(&mut self, lane: u32)
-    where
-        F: LaneNet<M>,
-        N: LaneNet<M>,
-        ensures lanes { (j : ℕ) → hop_lanes F.LaneNet N.LaneNet self.new j ≡ hop_lanes F.LaneNet N.LaneNet self.old j }
-        ensures whole { hop_lanes F.LaneNet N.LaneNet self.new lane ≡ both F.LaneNet N.LaneNet self.new lane }
-        ensures same { KeepsDepths F.LaneNet N.LaneNet self.old self.new }
+    /// The two nets again.
+    pub fn into_parts(self) -> (F, N)
+        ensures far { result.0 ≡ self.far }
+        ensures near { result.1 ≡ self.near }
     {
-        if self.count(lane) == 0 {
-            clear(&mut self.far, lane);
-            clear(&mut self.near, lane);
-        }
+        let Hop { far, near } = self;
+        (far, near)
     }
 
-    /// Moves messages on until the near net takes one, or is empty. (A `while`: only the nets' own counts
-    /// say when it ends.)
+    /// Moves messages on until the near net takes one, or is empty.
     fn make_room<M: Drop>(&mut self, lane: u32)
     where
         F: LaneNet<M>,
         N: LaneNet<M>,
-        requires { length (both F.LaneNet N.LaneNet self.old lane) < F.LaneNet.depth self.old.far + N.LaneNet.depth self.old.near }
-        ensures lanes { (j : ℕ) → both F.LaneNet N.LaneNet self.new j ≡ both F.LaneNet N.LaneNet self.old j }
+        requires { length (hop_lanes F.LaneNet N.LaneNet self.old lane) < F.LaneNet.depth self.old.far + N.LaneNet.depth self.old.near }
+        ensures lanes { (j : ℕ) → hop_lanes F.LaneNet N.LaneNet self.new j ≡ hop_lanes F.LaneNet N.LaneNet self.old j }
         ensures room { N.LaneNet.depth self.new.near ≤ length (N.LaneNet.lanes self.new.near lane) → length (N.LaneNet.lanes self.new.near lane) ≡ 0 }
-        ensures same { KeepsDepths F.LaneNet N.LaneNet self.old self.new }
+        ensures same { SameNets F.LaneNet N.LaneNet self.old self.new }
     {
         while self.near.count(lane) >= self.near.depth().max(1) {
             if let Some(moved) = self.near.take(lane) {
@@ -61,13 +55,16 @@ impl<M: Drop, F: LaneNet<M>, N: LaneNet<M>> LaneNet<M> for Hop<F, N> {
 
     ghost depth = { hop_depth F.LaneNet N.LaneNet };
 
+    ghost Loan = { F.LaneNet.Loan × N.LaneNet.Loan };
+
+    ghost loan = { hop_loan F.LaneNet N.LaneNet };
+
     ghost shallow = { hop_shallow F.LaneNet.own N.LaneNet.own };
 
     ghost bare = { hop_bare F.LaneNet.own N.LaneNet.own F.bare N.bare };
 
     fn put(&mut self, lane: u32, message: M) -> Result<(), LaneError> {
         self.room(lane)?;
-        self.settle::<M>(lane);
         self.make_room::<M>(lane);
         if self.near.count(lane) < self.near.depth() {
             self.near.put(lane, message)
@@ -77,38 +74,21 @@ impl<M: Drop, F: LaneNet<M>, N: LaneNet<M>> LaneNet<M> for Hop<F, N> {
     }
 
     fn oldest(&self, lane: u32) -> Option<M> {
-        if self.count(lane) == 0 {
-            return None;
-        }
         self.far.oldest(lane).or_else(|| self.near.oldest(lane))
     }
 
-    // A sum past 64 bits counts as none.
     fn count(&self, lane: u32) -> usize {
-        let (far, near) = (self.far.count(lane), self.near.count(lane));
-        far.checked_add(near).unwrap_or(0)
+        self.far.count(lane).saturating_add(self.near.count(lane))
     }
 
     fn depth(&self) -> usize {
-        (self.far.depth() + self.near.depth()).min(64)
+        (self.far.depth() + self.near.depth()).min(LANE_DEPTH)
     }
 
     fn take(&mut self, lane: u32) -> Option<M> {
-        if self.count(lane) == 0 {
-            return None;
-        }
-        // not by `or_else`: of what its closure does to the near net, a proof keeps nothing
         match self.far.take(lane) {
             None => self.near.take(lane),
             taken => taken,
         }
     }
-}
-
-/// Empties a lane.
-fn clear<M: Drop, N: LaneNet<M>>(net: &mut N, lane: u32)
-    ensures lanes { (j : ℕ) → N.LaneNet.lanes net.new j ≡ with_lane (N.LaneNet.lanes net.old) lane [] j }
-    ensures same { N.LaneNet.depth net.new ≡ N.LaneNet.depth net.old }
-{
-    while net.take(lane).is_some() {}
 }

@@ -1,6 +1,7 @@
 -- A memory in blocks of 512 bytes: 126 words, the block's number, and a check.
 use Rattle.std.specs.Prelude.{◌≡◌, ℕ, zero, suc, ◌+◌, ◌-◌, ◌*◌, ◌/◌, ◌%◌, ◌^◌, ◌<◌, ◌≤◌, min, Bool, cond, ◌&&◌, List, length, Ok, Err, Result, ◌==◌, slice_index}
 use Rattle.std.specs.List.{between}
+use Rattle.sizes.specs.declared.TheConstants.{WORDS}
 use Rattle.memories.specs.Cells.{Cell, word, unreadable}
 use Rattle.memories.specs.declared.memory.Fault.{Fault}
 
@@ -33,7 +34,7 @@ block_cell bs k i = cond (sound k bs) (word (word_at bs i)) (unreadable k)
 
 -- 126 words a block, at most 4,096
 abbrev pub size_of : List ℕ → ℕ
-size_of bytes = min (length bytes / 512 * 126) 4096
+size_of bytes = min (length bytes / 512 * 126) WORDS
 
 -- address a is word a mod 126 of block a div 126
 abbrev pub cell_of : List ℕ → ℕ → Cell

@@ -1,5 +1,5 @@
 -- What an image means as a memory.
-use Rattle.std.specs.Prelude.{◌≡◌, ℕ, ◌/◌, ◌<◌, Bool, true, List}
+use Rattle.std.specs.Prelude.{◌≡◌, ℕ, ◌/◌, ◌<◌, Bool, true, List, length}
 use Rattle.memories.specs.Cells.{Cell}
 use Rattle.images.specs.Blocks.{block_at, cell_of, size_of, sound}
 use Rattle.images.specs.declared.image.Image.{Image}
@@ -9,6 +9,10 @@ image_size s = size_of s.bytes.now
 
 abbrev pub image_cell : Image → ℕ → Cell
 image_cell s a = cell_of s.bytes.now a
+
+-- the ghost name of the bytes' borrow, and how many bytes there are
+abbrev pub image_loan : Image → ℕ × ℕ
+image_loan s = (s.bytes.ghost_name, length s.bytes.now)
 
 -- whether block k can be read
 abbrev pub readable_block : Image → ℕ → Bool

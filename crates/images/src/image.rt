@@ -3,10 +3,11 @@ ghost use Rattle.std.specs.Prelude.{◌≡◌, ℕ, ◌/◌, ◌<◌, true, IfOk
 ghost use Rattle.std.proofs.Common.{rules};
 ghost use Rattle.memories.specs.Cells.{write_answer, write_cells};
 ghost use Rattle.images.specs.Blocks.{BytesKept, WordAlone, put_cells};
-ghost use Rattle.images.specs.Images.{image_cell, image_size, readable_block, IsBlockOf};
+ghost use Rattle.images.specs.Images.{image_cell, image_loan, image_size, readable_block, IsBlockOf};
 
 use crate::block::{Block, is_sound, set_word, word_of};
 use memories::memory::{Fault, Memory};
+use sizes::WORDS;
 
 /// Blocks of 512 bytes: 126 words, lowest byte first, the block's number and a check. A rest of
 /// bytes is ignored. A block with another number or check is unreadable.
@@ -18,7 +19,8 @@ pub struct Image<'a> {
 impl<'a> Image<'a> {
     /// A memory that holds what the caller's bytes hold.
     pub fn new(image: &'a mut [u8]) -> Image<'a>
-        ensures { result.bytes.now ≡ image.old }
+        ensures bytes { result.bytes.now ≡ image.old }
+        ensures loan { result.bytes.ghost_name ≡ image.entry.ghost_name }
     {
         Image { bytes: image }
     }
@@ -45,6 +47,7 @@ impl<'a> Image<'a> {
         ensures cells { (k : ℕ) → image_cell self.new k ≡ put_cells (image_cell self.old) address word k }
         ensures same { image_size self.new ≡ image_size self.old }
         ensures bytes { WordAlone address self.old.bytes.now self.new.bytes.now }
+        ensures kept { image_loan self.new ≡ image_loan self.old }
     {
         let address = address as usize;
         let start = 512 * (address / 126);
@@ -58,10 +61,14 @@ impl<'a> Memory for Image<'a> {
 
     ghost cell = { λ s. image_cell s };
 
+    ghost Loan = { ℕ × ℕ };
+
+    ghost loan = { λ s. image_loan s };
+
     ghost small = { Prim.search rules };
 
     fn size(&self) -> u32 {
-        (self.bytes.len() / 512 * 126).min(4096) as u32
+        (self.bytes.len() / 512 * 126).min(WORDS) as u32
     }
 
     fn read(&self, address: u32) -> Result<u32, Fault> {
@@ -75,6 +82,7 @@ impl<'a> Memory for Image<'a> {
         ensures answer { result ≡ write_answer (image_size self.old) (image_cell self.old) address }
         ensures cells { (k : ℕ) → image_cell self.new k ≡ write_cells (image_size self.old) (image_cell self.old) address word k }
         ensures same { image_size self.new ≡ image_size self.old }
+        ensures kept { image_loan self.new ≡ image_loan self.old }
         ensures bytes { BytesKept address self.old.bytes.now self.new.bytes.now result }
     {
         self.block(address)?;

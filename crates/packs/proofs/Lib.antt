@@ -1,1 +1,1 @@
-pub mod PackLaws
+pub mod Groups

@@ -2,30 +2,29 @@
 ghost use Rattle.std.specs.Prelude.{◌≡◌, ◌<◌, [], ◌∷◌, ◌++◌, length, drop, is_some, take_while};
 ghost use Rattle.lanes.specs.Lanes.{oldest};
 ghost use Rattle.packs.specs.Packs.{messages_of};
+ghost use Rattle.packs.specs.declared.packed.TheConstants.{PACKED_DEPTH};
 
+use crate::packed::PACKED_DEPTH;
 use messages::form::FiveWords;
 use std::marker::Model;
 
-/// How many messages a lane takes.
-pub(crate) const DEPTH: usize = 8;
-
-/// At most 8 groups of words, oldest first. They are an array and no `Vec`: a net is made without
-/// memory, and cannot fail.
+/// At most 8 groups of words, oldest first.
 #[derive(Drop)]
 pub(crate) struct Lane {
-    groups: [[u32; 5]; DEPTH],
+    groups: [[u32; 5]; PACKED_DEPTH],
     count: usize,
 }
 
 // Clauses see the groups counted. Their messages are those up to the first group that is none.
 impl Model for Lane {
     ghost use Rattle.std.specs.Prelude.{ℕ, ◌≤◌, List, take};
+    ghost use Rattle.packs.specs.declared.packed.TheConstants.{PACKED_DEPTH};
 
     ghost Value = { List (List ℕ) };
 
     ghost view = { λ l. take l.count l.groups };
 
-    ghost invariant = { λ l. l.count ≤ 8 };
+    ghost invariant = { λ l. l.count ≤ PACKED_DEPTH };
 }
 
 impl Lane {
@@ -33,12 +32,12 @@ impl Lane {
         ensures { result ≡ [] }
     {
         Lane {
-            groups: [[0; 5]; DEPTH],
+            groups: [[0; 5]; PACKED_DEPTH],
             count: 0,
         }
     }
 
-    #[tactic(auto, using(crate::proofs::PackLaws::how_many))]
+    #[tactic(auto, using(crate::proofs::Groups::how_many))]
     pub(crate) fn count<M: FiveWords + Drop>(&self) -> usize
         ensures { result ≡ length (messages_of M.FiveWords.message self.now) }
     {
@@ -56,9 +55,9 @@ impl Lane {
     }
 
     /// Adds a message behind the last.
-    #[tactic(auto, using(crate::proofs::PackLaws::one_more))]
+    #[tactic(auto, using(crate::proofs::Groups::one_more))]
     pub(crate) fn push<M: FiveWords + Drop>(&mut self, message: M)
-        requires { length (messages_of M.FiveWords.message self.old) < DEPTH }
+        requires { length (messages_of M.FiveWords.message self.old) < PACKED_DEPTH }
         ensures { messages_of M.FiveWords.message self.new ≡ messages_of M.FiveWords.message self.old ++ message ∷ [] }
     {
         let count = self.count::<M>();

@@ -1,16 +1,22 @@
 //! Messages stored as their words.
 ghost use Rattle.std.specs.Prelude.{◌≡◌, ℕ, []};
-ghost use Rattle.packs.specs.Packs.{eight_shallow, pack_bare, pack_lanes};
+ghost use Rattle.packs.specs.PackLaws.{pack_bare, pack_shallow};
+ghost use Rattle.packs.specs.Packs.{pack_lanes};
+ghost use Rattle.packs.specs.declared.packed.TheConstants.{PACKED_DEPTH};
 
 use crate::lane::Lane;
 use lanes::net::{LaneError, LaneNet};
 use messages::form::FiveWords;
+use sizes::LANES;
 use std::marker::PhantomData;
+
+/// How many messages a packed lane takes.
+pub const PACKED_DEPTH: usize = 8;
 
 /// 16 lanes of at most 8 messages, each stored as its five words in a table of its own.
 #[derive(Drop)]
 pub struct Packed<M> {
-    lanes: [Lane; 16],
+    lanes: [Lane; LANES],
     kind: PhantomData<M>,
 }
 
@@ -29,9 +35,13 @@ impl<M: FiveWords + Drop> Packed<M> {
 impl<M: FiveWords + Drop> LaneNet<M> for Packed<M> {
     ghost lanes = { λ s. pack_lanes M.FiveWords s };
 
-    ghost depth = { λ _. 8 };
+    ghost depth = { λ _. PACKED_DEPTH };
 
-    ghost shallow = { λ _. eight_shallow };
+    ghost Loan = { Unit {0} };
+
+    ghost loan = { λ _. tt };
+
+    ghost shallow = { λ _. pack_shallow };
 
     ghost bare = { pack_bare M.FiveWords.own };
 
@@ -52,14 +62,13 @@ impl<M: FiveWords + Drop> LaneNet<M> for Packed<M> {
     }
 
     fn depth(&self) -> usize {
-        crate::lane::DEPTH
+        PACKED_DEPTH
     }
 
     fn take(&mut self, lane: u32) -> Option<M> {
-        if lane >= 16 {
+        if lane as usize >= LANES {
             return None;
         }
-        // not by `get_mut(..)?`: of what is written through it, a proof keeps nothing
         self.lanes[lane as usize].take()
     }
 }

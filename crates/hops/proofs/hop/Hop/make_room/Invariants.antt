@@ -1,11 +1,11 @@
 use Rattle.std.proofs.Common.{◌≡◌, ℕ, length}
-use Rattle.hops.specs.Hops.{both, KeepsDepths}
+use Rattle.hops.specs.Hops.{hop_lanes, SameNets}
 use Rattle.hops.proofs.hop.Hop.make_room.Given as goal
 
 abbrev pub invariant-loop-self : goal.invariant-loop-self
 invariant-loop-self g l = record {
-  lanes : (j : ℕ) → both g.F.LaneNet g.N.LaneNet l.self j ≡ both g.F.LaneNet g.N.LaneNet l.initial.self j;
-  same : KeepsDepths g.F.LaneNet g.N.LaneNet l.initial.self l.self;
+  lanes : (j : ℕ) → hop_lanes g.F.LaneNet g.N.LaneNet l.self j ≡ hop_lanes g.F.LaneNet g.N.LaneNet l.initial.self j;
+  same : SameNets g.F.LaneNet g.N.LaneNet l.initial.self l.self;
 }
 
 abbrev pub decreases-loop-self : goal.decreases-loop-self
