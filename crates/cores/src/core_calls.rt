@@ -20,11 +20,15 @@ const FRESH: Wave = Wave {
 };
 
 /// The value of a copy of the address that runs.
+#[inline(always)]
 fn running_value(copy: Option<LeasedCopy>, address: u32, clock: u32) -> Option<u32>
     ensures { result ≡ running_value copy clock address }
 {
-    copy.filter(|copy| copy.address == address && runs(copy.stamp, clock))
-        .map(|copy| copy.value)
+    let copy = copy?;
+    if copy.address != address || !runs(copy.stamp, clock) {
+        return None;
+    }
+    Some(copy.value)
 }
 
 impl Core {
@@ -66,15 +70,19 @@ impl Core {
     }
 
     /// Whether a request on the address is pending.
+    #[inline(always)]
     fn any_on(&self, address: u32) -> bool
         ensures { result ≡ any (on address) self.now.pending }
     {
-        self.pending
-            .iter()
-            .any(|request| request.address() == address)
+        !self.pending.is_empty()
+            && self
+                .pending
+                .iter()
+                .any(|request| request.address() == address)
     }
 
     /// The value of a running copy, where no request on the address is pending.
+    #[inline(always)]
     pub fn hit(&self, address: u32, clock: u32) -> Option<u32>
         ensures { result ≡ hit self.now clock address }
     {
