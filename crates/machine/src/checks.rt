@@ -41,6 +41,7 @@ impl Tables {
 
     /// The core of a wave that may issue on an address. Checks: cause 1, then 2, then 3. (It takes the
     /// memory's size: with the memory lent for its own check while the core is held, `load` got no proof.)
+    #[inline(always)]
     pub(crate) fn issuer(
         &self,
         size: u32,
