@@ -8,8 +8,8 @@ use std::marker::Model;
 /// The clock, the protocol, the cores and the bank. A machine without cores has not been started.
 #[derive(Drop)]
 pub struct Tables {
-    pub(crate) clock: Clock,
     pub(crate) protocol: Protocol,
+    pub(crate) clock: Clock,
     pub(crate) cores: Vec<Core>,
     /// cores whose room is reserved, and that no start has taken
     pub(crate) spare: Vec<Core>,
