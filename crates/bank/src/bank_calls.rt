@@ -40,11 +40,20 @@ impl Bank {
         self.waiters = 0;
     }
 
-    /// The line of an address.
+    /// The line of an address, by its fields, so that no padding is copied.
     pub(crate) fn line(&self, address: u32) -> Option<Line>
         ensures { result ≡ line_of self.now address }
     {
-        *self.lines.get(address as usize)?
+        let Line {
+            value,
+            stamp,
+            changed,
+        } = (*self.lines.get(address as usize)?)?;
+        Some(Line {
+            value,
+            stamp,
+            changed,
+        })
     }
 
     /// Whether 256 lines exist.

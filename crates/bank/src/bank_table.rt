@@ -6,9 +6,9 @@ use std::marker::Model;
 /// stamp, at most 128 in all; and for each lane the address on which its oldest request was told to wait.
 #[derive(Drop)]
 pub struct Bank {
-    pub(crate) lines: Vec<Option<Line>>,
     /// how many lines there are
     pub(crate) count: usize,
+    pub(crate) lines: Vec<Option<Line>>,
     /// 0 where no stamp is kept
     pub(crate) kept: Vec<u32>,
     pub(crate) waiting: [Option<u32>; 16],
