@@ -69,16 +69,22 @@ impl Core {
             .is_some_and(|wave| wave.fenced)
     }
 
-    /// Whether a request on the address is pending.
+    /// Looks through the pending requests for one on the address.
+    #[inline(never)]
+    fn find_on(&self, address: u32) -> bool
+        ensures { result ≡ any (on address) self.now.pending }
+    {
+        self.pending
+            .iter()
+            .any(|request| request.address() == address)
+    }
+
+    /// Whether a request on the address is pending. Mostly none is pending at all.
     #[inline(always)]
     fn any_on(&self, address: u32) -> bool
         ensures { result ≡ any (on address) self.now.pending }
     {
-        !self.pending.is_empty()
-            && self
-                .pending
-                .iter()
-                .any(|request| request.address() == address)
+        !self.pending.is_empty() && self.find_on(address)
     }
 
     /// The value of a running copy, where no request on the address is pending.
@@ -131,14 +137,22 @@ impl Core {
         let _ = self.pending.pop_front();
     }
 
-    /// Whether a store or atomic on the address is pending. (One chain, as `any_on` is: a test handed in
-    /// would be longer than both.)
-    fn any_write_on(&self, address: u32) -> bool
+    /// Looks through the pending requests for a store or atomic on the address.
+    #[inline(never)]
+    fn find_write_on(&self, address: u32) -> bool
         ensures { result ≡ any (writes_on address) self.now.pending }
     {
         self.pending
             .iter()
             .any(|request| request.writes() && request.address() == address)
+    }
+
+    /// Whether a store or atomic on the address is pending. Mostly none is pending at all.
+    #[inline(always)]
+    fn any_write_on(&self, address: u32) -> bool
+        ensures { result ≡ any (writes_on address) self.now.pending }
+    {
+        !self.pending.is_empty() && self.find_write_on(address)
     }
 
     /// Makes a copy of a load's value, if its stamp runs and no store or atomic on the address is
