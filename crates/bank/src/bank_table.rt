@@ -12,8 +12,8 @@ use std::marker::Model;
 /// address on which its oldest request was told to wait.
 #[derive(Drop)]
 pub struct Bank {
-    lines: Vec<Option<Line>>,
     line_count: usize,
+    lines: Vec<Option<Line>>,
     /// 0 where no stamp is kept
     kept: Vec<u32>,
     waiting: [Option<u32>; LANES],
@@ -65,11 +65,20 @@ impl Bank {
         self.waiting_count = 0;
     }
 
-    /// The line of an address.
+    /// The line of an address, by its fields, so that no padding is copied.
     pub(crate) fn line(&self, address: u32) -> Option<Line>
         ensures { result ≡ line_of self.now address }
     {
-        *self.lines.get(address as usize)?
+        let Line {
+            value,
+            stamp,
+            changed,
+        } = (*self.lines.get(address as usize)?)?;
+        Some(Line {
+            value,
+            stamp,
+            changed,
+        })
     }
 
     /// Whether no more lines can be made.

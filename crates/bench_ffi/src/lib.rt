@@ -15,10 +15,13 @@ use memories::memory::Memory;
 use memories::words::Words;
 use messages::answer::Answer;
 use messages::request::Request;
+use sizes::{LANES, WORDS};
 use std::alloc::{AllocError, Global};
 
-/// The call that four words name: kind, core, address and value. Waves are 0. (C gives words, so a
-/// kind is a number.)
+/// Messages that a lane of either net takes.
+const DEPTH: usize = 32;
+
+/// The call that four words name: kind, core, address and value. Waves are 0.
 fn call_of(kind: u32, core: u32, address: u32, value: u32) -> Call
     ensures load { kind ≡ 0 → result ≡ call.Load core 0 address }
     ensures store { kind ≡ 1 → result ≡ call.Store core 0 address value }
@@ -52,8 +55,7 @@ fn calls_of(heap: Global, words: &[u32]) -> Result<Vec<Call>, AllocError> {
         .collect(heap)
 }
 
-/// A number for what a call came to: a value, the clock or its cause's number, else 0. (C takes a
-/// number.)
+/// A number for what a call came to: a value, the clock or its cause's number, else 0.
 fn worth(outcome: Outcome) -> u32 {
     match outcome {
         Outcome::Hit { value, .. } => value,
@@ -75,8 +77,8 @@ fn make_all<Q: LaneNet<Request>, R: LaneNet<Answer>, M: Memory>(
     })
 }
 
-/// Starts a machine, makes the calls of `before` once, and those of `calls` so many times. (`player` has
-/// such rows too. A machine borrows them, and a function that lent one to a closure would be no shorter.)
+/// Starts a machine of 4,096 zero words and nets of depth 32, makes the calls of `before` once, and those
+/// of `calls` `rounds` times.
 fn run(
     heap: Global,
     start: Call,
@@ -85,9 +87,9 @@ fn run(
     calls: &[u32],
     rounds: u32,
 ) -> Result<u32, AllocError> {
-    let mut requests = vec![in heap; Request::FILLER; 512]?;
-    let mut answers = vec![in heap; Answer::FILLER; 512]?;
-    let mut words = vec![in heap; 0u32; 4096]?;
+    let mut requests = vec![in heap; Request::FILLER; LANES * DEPTH]?;
+    let mut answers = vec![in heap; Answer::FILLER; LANES * DEPTH]?;
+    let mut words = vec![in heap; 0u32; WORDS]?;
     let before = calls_of(heap, before)?;
     let calls = calls_of(heap, calls)?;
     let tables = Tables::new(heap)?;
@@ -108,7 +110,8 @@ fn run(
     Ok(sum)
 }
 
-/// A number for all that the calls came to; 0 for want of memory. (`strong` is a `bool` for C.)
+/// A number for all that the calls came to, under TC-Strong or else under TC-Weak; 0 for want of memory.
+/// `before` and `calls` have four words for a call.
 #[unsafe(no_mangle)]
 pub extern "C" fn bench_ffi_run(
     heap: Global,
@@ -125,6 +128,5 @@ pub extern "C" fn bench_ffi_run(
         Protocol::Weak
     };
     let start = Call::Start { cores, protocol };
-    // C has no Result: 0 stands for want of memory
     run(heap, start, lifetime, before, calls, rounds).unwrap_or(0)
 }

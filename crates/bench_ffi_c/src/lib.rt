@@ -1,10 +1,10 @@
-//! The library's boundary as C and Rust see it: one exported function. It stands here too because a
-//! crate is a library or a static one.
+//! The library's boundary as C and Rust see it: one exported function.
 #![tactic(auto)]
 
 use std::alloc::Global;
 
-/// A number for all that the calls came to; 0 for want of memory. (`strong` is a `bool` for C.)
+/// A number for all that the calls came to, under TC-Strong or else under TC-Weak; 0 for want of memory.
+/// `before` and `calls` have four words for a call.
 #[unsafe(no_mangle)]
 pub extern "C" fn bench_ffi_run(
     heap: Global,

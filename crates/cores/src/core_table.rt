@@ -51,11 +51,15 @@ impl Model for Core {
 }
 
 /// The value of a copy of the address that runs.
+#[inline(always)]
 fn running_value(copy: Option<LeasedCopy>, address: u32, clock: u32) -> Option<u32>
     ensures { result ≡ running_value copy clock address }
 {
-    copy.filter(|copy| copy.address == address && runs(copy.stamp, clock))
-        .map(|copy| copy.value)
+    let copy = copy?;
+    if copy.address != address || !runs(copy.stamp, clock) {
+        return None;
+    }
+    Some(copy.value)
 }
 
 impl Core {
@@ -96,8 +100,9 @@ impl Core {
             .is_some_and(|wave| wave.fenced)
     }
 
-    /// Whether a request on the address is pending.
-    fn any_on(&self, address: u32) -> bool
+    /// Looks through the pending requests for one on the address.
+    #[inline(never)]
+    fn find_on(&self, address: u32) -> bool
         ensures { result ≡ list_any (on address) self.now.pending }
     {
         self.pending
@@ -105,8 +110,17 @@ impl Core {
             .any(|request| request.address() == address)
     }
 
-    /// Whether a store or atomic on the address is pending.
-    fn any_write_on(&self, address: u32) -> bool
+    /// Whether a request on the address is pending. Mostly none is pending at all.
+    #[inline(always)]
+    fn any_on(&self, address: u32) -> bool
+        ensures { result ≡ list_any (on address) self.now.pending }
+    {
+        !self.pending.is_empty() && self.find_on(address)
+    }
+
+    /// Looks through the pending requests for a store or atomic on the address.
+    #[inline(never)]
+    fn find_write_on(&self, address: u32) -> bool
         ensures { result ≡ list_any (writes_on address) self.now.pending }
     {
         self.pending
@@ -114,7 +128,16 @@ impl Core {
             .any(|request| request.writes() && request.address() == address)
     }
 
+    /// Whether a store or atomic on the address is pending. Mostly none is pending at all.
+    #[inline(always)]
+    fn any_write_on(&self, address: u32) -> bool
+        ensures { result ≡ list_any (writes_on address) self.now.pending }
+    {
+        !self.pending.is_empty() && self.find_write_on(address)
+    }
+
     /// The value of a running copy, where no request on the address is pending.
+    #[inline(always)]
     pub fn hit(&self, address: u32, clock: u32) -> Option<u32>
         ensures { result ≡ hit self.now clock address }
     {

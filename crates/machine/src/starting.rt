@@ -16,6 +16,7 @@ use messages::request::Request;
 use sizes::LANES;
 
 /// Whether a net is empty and takes messages.
+#[inline(never)]
 fn is_ready<X, N: LaneNet<X>>(net: &N) -> bool
     ensures { result ≡ ready (net_state N.LaneNet net.now) }
 {
@@ -33,7 +34,7 @@ impl<Q: LaneNet<Request>, R: LaneNet<Answer>, M: Memory, P: LifetimePolicy> Mach
     /// Starts the machine with cores 0 to `cores` - 1, empties the bank, and sets the clock to 1. Refused
     /// (15) unless there are 1 to 16 cores, the machine was not started before, and both nets are empty and
     /// have a depth above 0.
-    #[inline(never)]
+    #[inline(always)]
     pub fn start(&mut self, cores: u32, protocol: Protocol) -> Result<(), Refusal>
         ensures { Does Q.LaneNet R.LaneNet M.Memory P.LifetimePolicy (λ s. start_step s cores protocol) self.old result self.new }
     {

@@ -31,8 +31,8 @@ use std::marker::Model;
 /// The clock, the protocol, the cores and the bank. A machine without cores has not been started.
 #[derive(Drop)]
 pub struct Tables {
-    pub(crate) clock: Clock,
     protocol: Protocol,
+    pub(crate) clock: Clock,
     cores: Vec<Core>,
     /// cores whose room is reserved, and that no start has taken
     spare: Vec<Core>,
@@ -91,6 +91,7 @@ impl Tables {
     }
 
     /// Starts with `count` cores.
+    #[inline(never)]
     pub(crate) fn start(&mut self, count: u32, protocol: Protocol)
         requires { (count ≤ LANES) × (length self.old.cores ≡ 0) }
         ensures { self.new ≡ started count protocol }
@@ -122,6 +123,7 @@ impl Tables {
 
     /// The core of a wave that may issue on an address of a memory of this size. Checks: cause 1, then 2,
     /// then 3.
+    #[inline(always)]
     pub(crate) fn issuer(
         &self,
         size: u32,

@@ -1,9 +1,12 @@
 //! Measures tcrun against the model's program, and the proved library against the model's.
+//!
+//! `bench play SIDE CALL LINES CORES ROUNDS` plays the calls of one row on one side, so that its
+//! instructions can be counted.
 
 use std::fs::{File, read_to_string};
 use std::hint::black_box;
 use std::path::{Path, PathBuf};
-use std::process::{Command, ExitCode, Stdio};
+use std::process::{Child, Command, ExitCode, Stdio};
 use std::time::{Duration, Instant};
 
 use tcmodel::scripts::{Profile, full, make};
@@ -61,10 +64,11 @@ fn on_proved(work: &Work, rounds: u32) -> u32 {
     }
 }
 
+/// A call as a value, as the library has it.
 #[derive(Clone, Copy)]
 enum Call {
-    Load { core: u32, address: u32 },
-    Store { core: u32, address: u32, value: u32 },
+    Load { core: u32, wave: u32, address: u32 },
+    Store { core: u32, wave: u32, address: u32, value: u32 },
     Serve { core: u32 },
     Deliver { core: u32 },
     Tick,
@@ -73,8 +77,8 @@ enum Call {
 fn calls_of(rows: &[Row]) -> Vec<Call> {
     rows.iter()
         .map(|&[kind, core, address, value]| match kind {
-            LOAD => Call::Load { core, address },
-            STORE => Call::Store { core, address, value },
+            LOAD => Call::Load { core, wave: 0, address },
+            STORE => Call::Store { core, wave: 0, address, value },
             SERVE => Call::Serve { core },
             DELIVER => Call::Deliver { core },
             _ => Call::Tick,
@@ -82,13 +86,16 @@ fn calls_of(rows: &[Row]) -> Vec<Call> {
         .collect()
 }
 
+/// A number for what a call came to: a value, the clock or a refusal's number, else 0.
 fn worth(machine: &mut Machine<Words, Fixed>, call: Call) -> u32 {
     let result = match call {
-        Call::Load { core, address } => machine.load(core, 0, address).map(|i| match i {
+        Call::Load { core, wave, address } => machine.load(core, wave, address).map(|i| match i {
             Issued::Hit(value) => value,
             Issued::Sent => 0,
         }),
-        Call::Store { core, address, value } => machine.store(core, 0, address, value).map(|()| 0),
+        Call::Store { core, wave, address, value } => {
+            machine.store(core, wave, address, value).map(|()| 0)
+        }
         Call::Serve { core } => machine.serve(core).map(|()| 0),
         Call::Deliver { core } => machine.deliver(core).map(|d| match d {
             Delivered::Load { value, .. } => value,
@@ -99,6 +106,11 @@ fn worth(machine: &mut Machine<Words, Fixed>, call: Call) -> u32 {
     result.unwrap_or_else(|refusal| refusal.number())
 }
 
+/// Makes each call in turn, and adds what it came to.
+fn make_all(machine: &mut Machine<Words, Fixed>, calls: &[Call], sum: u32) -> u32 {
+    calls.iter().fold(sum, |sum, &call| sum.wrapping_mul(31).wrapping_add(worth(machine, call)))
+}
+
 /// The same work on the model.
 fn on_model(work: &Work, rounds: u32) -> u32 {
     let before = calls_of(&work.before);
@@ -107,14 +119,9 @@ fn on_model(work: &Work, rounds: u32) -> u32 {
         Machine::new(Net::new(32), Net::new(32), Words::zero(4096), Fixed::new(work.lifetime));
     let protocol = if work.strong { Protocol::Strong } else { Protocol::Weak };
     let mut sum = machine.start(work.cores, protocol).map_or_else(|r| r.number(), |()| 0);
-    let mut make_all = |calls: &[Call]| {
-        for &call in calls {
-            sum = sum.wrapping_mul(31).wrapping_add(worth(&mut machine, call));
-        }
-    };
-    make_all(&before);
+    sum = make_all(&mut machine, &before, sum);
     for _ in 0..rounds {
-        make_all(&calls);
+        sum = make_all(&mut machine, &calls, sum);
     }
     sum
 }
@@ -125,6 +132,9 @@ fn round(rows: &mut Vec<Row>, kind: u32, core: u32, address: u32) {
 }
 
 const KINDS: [&str; 5] = ["hit", "miss and fill", "store", "waiting store", "tick"];
+
+/// The calls of a round, at least: so many that entering a round counts for nothing.
+const ROUND: usize = 1024;
 
 /// The bank has so many lines, and every core does the same.
 fn work(kind: &str, lines: u32, cores: u32) -> Work {
@@ -143,9 +153,9 @@ fn work(kind: &str, lines: u32, cores: u32) -> Work {
         // A lease of lifetime 0 ends with its tick.
         "miss and fill" => {
             w.lifetime = 0;
-            w.calls.push([TICK, 0, 0, 0]);
             for core in 0..cores {
                 for line in 0..lines {
+                    w.calls.push([TICK, 0, 0, 0]);
                     round(&mut w.calls, LOAD, core, line);
                 }
             }
@@ -168,8 +178,10 @@ fn work(kind: &str, lines: u32, cores: u32) -> Work {
                 w.calls.push([SERVE, core, 0, 0]);
             }
         }
-        _ => w.calls = vec![[TICK, 0, 0, 0]; 16],
+        _ => w.calls.push([TICK, 0, 0, 0]),
     }
+    let times = ROUND.div_ceil(w.calls.len());
+    w.calls = w.calls.repeat(times);
     w
 }
 
@@ -204,16 +216,82 @@ fn measure(work: &Work) -> Result<(f64, f64), String> {
         model = model.min(least(1, || _ = black_box(on_model(work, rounds))));
     }
     let calls = f64::from(rounds) * work.calls.len() as f64;
-    let each = |all: Duration, before: Duration| {
-        all.saturating_sub(before).as_nanos() as f64 / calls
-    };
+    let each =
+        |all: Duration, before: Duration| all.saturating_sub(before).as_nanos() as f64 / calls;
     Ok((each(proved, proved_before), each(model, model_before)))
 }
 
-fn libraries() -> Result<(), String> {
-    println!("\nThe library: nanoseconds for one call\n");
-    println!("| Call | Lines | Cores | Proved | Model | Ratio |");
-    println!("|---|---|---|---|---|---|");
+/// A program that runs under valgrind, which counts its instructions.
+fn counted(program: &Path, arguments: &[String], input: Stdio) -> Result<Child, String> {
+    Command::new("valgrind")
+        .args(["--tool=cachegrind", "--cache-sim=no", "--cachegrind-out-file=/dev/null"])
+        .arg(program)
+        .args(arguments)
+        .stdin(input)
+        .stdout(Stdio::null())
+        .stderr(Stdio::piped())
+        .spawn()
+        .map_err(|e| format!("valgrind: {e}"))
+}
+
+/// The count that valgrind prints at its end.
+fn count_of(child: Child) -> Result<f64, String> {
+    let output = child.wait_with_output().map_err(|e| format!("valgrind: {e}"))?;
+    let text = String::from_utf8_lossy(&output.stderr);
+    let (_, count) = text.split_once("refs:").ok_or(format!("valgrind counts nothing: {text}"))?;
+    let digits: String = count.lines().next().unwrap_or("").replace(',', "");
+    digits.trim().parse().map_err(|e| format!("valgrind: {digits}: {e}"))
+}
+
+/// Instructions for a call, on the proved library and on the model: what as many rounds again take.
+fn instructions(kind: &str, lines: u32, cores: u32) -> Result<(f64, f64), String> {
+    let bench = std::env::current_exe().map_err(|e| format!("bench: {e}"))?;
+    let calls = work(kind, lines, cores).calls.len();
+    let rounds = 16384_usize.div_ceil(calls);
+    let count = |side: &str, rounds: usize| {
+        let words =
+            ["play", side, kind, &lines.to_string(), &cores.to_string(), &rounds.to_string()];
+        counted(&bench, &words.map(String::from), Stdio::null())
+    };
+    let [proved, proved_twice, model, model_twice] = [
+        count("proved", rounds)?,
+        count("proved", 2 * rounds)?,
+        count("model", rounds)?,
+        count("model", 2 * rounds)?,
+    ]
+    .map(count_of);
+    let all = (rounds * calls) as f64;
+    Ok(((proved_twice? - proved?) / all, (model_twice? - model?) / all))
+}
+
+/// `play SIDE CALL LINES CORES ROUNDS`
+fn play(words: &[String]) -> Result<(), String> {
+    let [side, kind, lines, cores, rounds] = words else {
+        return Err("play takes a side, a call, lines, cores and rounds".into());
+    };
+    let number = |word: &str| word.parse::<u32>().map_err(|e| format!("{word}: {e}"));
+    let work = work(kind, number(lines)?, number(cores)?);
+    let rounds = number(rounds)?;
+    black_box(match side.as_str() {
+        "proved" => on_proved(&work, rounds),
+        _ => on_model(&work, rounds),
+    });
+    Ok(())
+}
+
+/// The columns of two instruction counts and their ratio, where instructions are counted.
+fn counts_head(o: &Options) -> (&'static str, &'static str) {
+    if o.counts { (" Instructions | Model | Ratio |", "---|---|---|") } else { ("", "") }
+}
+
+fn libraries(o: &Options) -> Result<(), String> {
+    let (head, rule) = counts_head(o);
+    println!(
+        "\nThe library: nanoseconds{} for one call\n",
+        if o.counts { " and instructions" } else { "" }
+    );
+    println!("| Call | Lines | Cores | Proved | Model | Ratio |{head}");
+    println!("|---|---|---|---|---|---|{rule}");
     for kind in KINDS {
         let by_lines = [1, 4, 16, 64, 256].map(|lines| (lines, 1));
         let by_cores = [2, 4, 8, 16].map(|cores| (16, cores));
@@ -224,7 +302,12 @@ fn libraries() -> Result<(), String> {
             let (proved, model) =
                 measure(&work(kind, lines, cores)).map_err(|e| format!("{kind}: {e}"))?;
             let ratio = proved / model;
-            println!("| {kind} | {lines} | {cores} | {proved:.1} | {model:.1} | {ratio:.1} |");
+            print!("| {kind} | {lines} | {cores} | {proved:.2} | {model:.2} | {ratio:.2} |");
+            if o.counts {
+                let (proved, model) = instructions(kind, lines, cores)?;
+                print!(" {proved:.1} | {model:.1} | {:.2} |", proved / model);
+            }
+            println!();
         }
     }
     Ok(())
@@ -252,9 +335,13 @@ fn scripts(letters: Letters) -> Vec<(String, Vec<u8>)> {
         ("ticks".to_string(), full(&[], &[b"T\n".to_vec()])),
         ("empty lines".to_string(), full(&[], &[b"\n".to_vec()])),
     ];
-    for (kind, lines, cores) in
-        [("hit", 1, 16), ("hit", 256, 16), ("store", 16, 16), ("store", 256, 4), ("waiting store", 16, 16)]
-    {
+    for (kind, lines, cores) in [
+        ("hit", 1, 16),
+        ("hit", 256, 16),
+        ("store", 16, 16),
+        ("store", 256, 4),
+        ("waiting store", 16, 16),
+    ] {
         let w = work(kind, lines, cores);
         let protocol = if w.strong { 'S' } else { 'W' };
         let mut before = vec![format!("N {cores} {protocol}\n").into_bytes()];
@@ -295,9 +382,14 @@ fn time_of(program: &Path, input: &Path) -> Result<Duration, String> {
 }
 
 fn programs(o: &Options) -> Result<(), String> {
-    println!("\nThe program: milliseconds for a script of 64 KiB, shortest and median of {}\n", o.runs);
-    println!("| Script | Lines | tcrun | median | Model | median | Ratio |");
-    println!("|---|---|---|---|---|---|---|");
+    let (head, rule) = counts_head(o);
+    let unit = if o.counts { ", and millions of instructions" } else { "" };
+    println!(
+        "\nThe program: milliseconds for a script of 64 KiB, shortest and median of {}{unit}\n",
+        o.runs
+    );
+    println!("| Script | Lines | tcrun | median | Model | median | Ratio |{head}");
+    println!("|---|---|---|---|---|---|---|{rule}");
     let input = std::env::temp_dir().join(format!("tc-bench-{}", std::process::id()));
     for (name, script) in scripts(o.letters) {
         std::fs::write(&input, &script).map_err(|e| format!("{}: {e}", input.display()))?;
@@ -313,13 +405,23 @@ fn programs(o: &Options) -> Result<(), String> {
         model.sort();
         let ms = |d: Duration| d.as_secs_f64() * 1e3;
         let (t, m) = (ms(tcrun[0]), ms(model[0]));
-        println!(
+        print!(
             "| {name} | {} | {t:.2} | {:.2} | {m:.2} | {:.2} | {:.2} |",
             script.iter().filter(|&&b| b == b'\n').count(),
             ms(tcrun[tcrun.len() / 2]),
             ms(model[model.len() / 2]),
             t / m
         );
+        if o.counts {
+            let count = |program: &Path| {
+                let script = File::open(&input).map_err(|e| format!("{}: {e}", input.display()))?;
+                counted(program, &[], script.into())
+            };
+            let [tcrun, model] = [count(&o.tcrun)?, count(&o.model)?].map(count_of);
+            let (tcrun, model) = (tcrun? / 1e6, model? / 1e6);
+            print!(" {tcrun:.3} | {model:.3} | {:.2} |", tcrun / model);
+        }
+        println!();
     }
     std::fs::remove_file(&input).map_err(|e| format!("{}: {e}", input.display()))
 }
@@ -329,16 +431,26 @@ struct Options {
     model: PathBuf,
     letters: Letters,
     runs: usize,
+    /// whether instructions are counted
+    counts: bool,
 }
 
-fn options() -> Result<Options, String> {
+/// Whether valgrind is there.
+fn has_valgrind() -> bool {
+    let mut command = Command::new("valgrind");
+    command.arg("--version").stdout(Stdio::null()).stderr(Stdio::null());
+    command.status().is_ok_and(|status| status.success())
+}
+
+fn options(words: &[String]) -> Result<Options, String> {
     let mut o = Options {
         tcrun: PathBuf::from("crates/tcrun/out/tcrun"),
         model: PathBuf::from("target/bench/release/tcmodel"),
         letters: Letters::ALL,
         runs: 40,
+        counts: has_valgrind(),
     };
-    let mut words = std::env::args().skip(1);
+    let mut words = words.iter();
     while let Some(word) = words.next() {
         let value = words.next().ok_or(format!("{word}: no value"))?;
         match word.as_str() {
@@ -363,9 +475,24 @@ fn machine() {
     println!("Machine: {cpu}, {cores} processors");
 }
 
-fn main() -> ExitCode {
+fn run(words: &[String]) -> Result<(), String> {
+    if let Some((first, rest)) = words.split_first()
+        && first == "play"
+    {
+        return play(rest);
+    }
+    let o = options(words)?;
     machine();
-    match options().and_then(|o| programs(&o)).and_then(|()| libraries()) {
+    if !o.counts {
+        println!("valgrind is not there: times alone, no instructions.");
+    }
+    programs(&o)?;
+    libraries(&o)
+}
+
+fn main() -> ExitCode {
+    let words: Vec<String> = std::env::args().skip(1).collect();
+    match run(&words) {
         Ok(()) => ExitCode::SUCCESS,
         Err(e) => {
             eprintln!("bench: {e}");
