@@ -19,3 +19,7 @@ view q r m s = record {
   answers = net_state r s.answers;
   memory = memory_state m s.memory;
 }
+
+-- what the nets and the memory were lent
+abbrev pub loans : {Q R M P : Type 0} (q : net.Ghosts Q Request) (r : net.Ghosts R Answer) (m : memory.Ghosts M) → Machine Q R M P → q.Loan × r.Loan × m.Loan
+loans q r m s = (q.loan s.requests, r.loan s.answers, m.loan s.memory)

@@ -25,6 +25,6 @@ returns c =
     on_board s (p.tables ∙ c.in_ok-tables.ensures)
     (λ k. rw p.requests (c.new-2.ensures.empty k)) (rw (p.requests, c.new-2.ensures.depth, requests) refl)
     (λ k. rw p.answers (c.new-3.ensures.empty k)) (rw (p.answers, c.new-3.ensures.depth, answers) refl)
-    (rw (p.memory, c.new-4.ensures, words) refl) (λ a. rw (p.memory, c.new-4.ensures, words) (ap word (zeros WORDS a)))
+    (rw (p.memory, c.new-4.ensures.words, words) refl) (λ a. rw (p.memory, c.new-4.ensures.words, words) (ap word (zeros WORDS a)))
     c.play.new.out.items c.new-out.result.items m.policy.lifetime (script (take INPUT_BYTES c.args.input.now))
     c.in_ok-play.ensures.bytes c.new-out.ensures.items (rw p.policy c.new-5.ensures)
