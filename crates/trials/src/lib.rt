@@ -9,14 +9,16 @@ mod ends;
 #[cfg(test)]
 mod lane_nets;
 #[cfg(test)]
+mod lent_rows;
+#[cfg(test)]
 mod lifetime_policies;
+#[cfg(test)]
+mod machine_sizes;
 #[cfg(test)]
 mod message_words;
 #[cfg(test)]
 mod scenes;
 #[cfg(test)]
 mod script_lines;
-#[cfg(test)]
-mod sizes;
 #[cfg(test)]
 mod word_memories;
