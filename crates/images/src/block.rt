@@ -2,8 +2,7 @@
 ghost use Rattle.std.specs.Prelude.{◌≡◌, ℕ, ◌+◌, ◌*◌, ◌%◌, ◌^◌, ◌<◌, ◌≤◌, length, slice_index};
 ghost use Rattle.images.specs.Blocks.{ElseKept, check_of, sound, total, word_at};
 
-/// 126 words, lowest byte first, the block's number and a check. An array and no struct: it lies in
-/// the caller's bytes, which are lent as they are.
+/// 126 words, lowest byte first, the block's number and a check.
 pub(crate) type Block = [u8; 512];
 
 /// Word i of a block, lowest byte first.
@@ -24,8 +23,7 @@ fn put_word(block: &mut [u8], i: usize, word: u32)
     block[4 * i..4 * i + 4].copy_from_slice(&word.to_le_bytes());
 }
 
-/// The sum of the first 127 words of a block, modulo 2^32. (By place, as `word_of` has them: a chain over
-/// the chunks would be no shorter.)
+/// The sum of the first 127 words of a block, modulo 2^32.
 fn sum_of(block: &Block) -> u32
     ensures { result ≡ total block.now 127 % 2 ^ 32 }
 {
@@ -46,8 +44,7 @@ pub(crate) fn is_sound(block: &Block, number: u32) -> bool
     word_of(block, 126) == number && word_of(block, 127) == check_of(block)
 }
 
-/// Sets word i of a block and renews the block's check. The block is lent as a part of the caller's bytes,
-/// and so as a slice.
+/// Sets word i of a block and renews the block's check.
 pub(crate) fn set_word(block: &mut [u8], i: usize, word: u32)
     requires { (length block.old ≡ 512) × (i < 126) }
     ensures sets { word_at block.new i ≡ word }

@@ -9,6 +9,8 @@ mod ends;
 #[cfg(test)]
 mod lane_nets;
 #[cfg(test)]
+mod lent_rows;
+#[cfg(test)]
 mod lifetime_policies;
 #[cfg(test)]
 mod memory_sizes;
