@@ -20,7 +20,6 @@ pub enum Delivered {
 }
 
 /// What a call comes to, with the word that a script's output has for it, which the values follow.
-/// One enum and no `Result`: for a call as a value a refusal is one outcome among seven.
 #[derive(Clone, Copy, PartialEq, Eq, Debug)]
 pub enum Outcome {
     /// Start, `started`: the machine runs

@@ -27,8 +27,7 @@ fn zero_words(heap: Global) -> Result<Vec<u32>, AllocError>
     vec![in heap; 0u32; WORDS]
 }
 
-/// What tcrun writes for an input. (The benchmark's library has such rows too. A machine borrows them, and
-/// a function that lent one to a closure would be no shorter.)
+/// What tcrun writes for an input: a line for each of its lines. An error where memory is short.
 pub fn run(heap: Global, input: &[u8]) -> Result<Vec<u8>, AllocError>
     ensures { IfOk result (λ out. out.items ≡ played board 10 0 (script (take INPUT_BYTES input.now))) }
 {

@@ -16,7 +16,7 @@ use Rattle.script.proofs.Numbers.{Digits, test, model, number_decimal}
 use Rattle.script.proofs.Splits.{script_more, script_length}
 
 -- byte b does not stand in the list
-abbrev Without : ℕ → List ℕ → Type 0
+abbrev pub Without : ℕ → List ℕ → Type 0
 Without b xs = AllByRecursion (λ x. x ≡ b → ⊥) xs
 
 without_append : (b : ℕ) (xs ys : List ℕ) → Without b xs → Without b ys → Without b (xs ++ ys)
@@ -33,11 +33,11 @@ without_decimal : (b n : ℕ) → b < 48 → n < 2 ^ 32 → Without b (decimal n
 without_decimal b n low h = without_digits b (decimal n) low (digits_decimal model n (omega arith))
 
 -- a part before byte b
-split_part : (b : ℕ) (f ys : List ℕ) → Without b f → split b (f ++ (b ∷ ys)) ≡ f ∷ split b ys
+pub split_part : (b : ℕ) (f ys : List ℕ) → Without b f → split b (f ++ (b ∷ ys)) ≡ f ∷ split b ys
 split_part b [] ys h = rw (eq-eqb b b refl) refl
 split_part b (x ∷ f) ys h = rw (ne_eqb x b h.0) (ap (onto x) (split_part b f ys h.1))
 
-split_whole : (b : ℕ) (f : List ℕ) → Without b f → split b f ≡ f ∷ []
+pub split_whole : (b : ℕ) (f : List ℕ) → Without b f → split b f ≡ f ∷ []
 split_whole b [] h = refl
 split_whole b (x ∷ f) h = rw (ne_eqb x b h.0) (ap (onto x) (split_whole b f h.1))
 

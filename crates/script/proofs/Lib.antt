@@ -1,4 +1,5 @@
 pub mod Back
+pub mod Fronts
 pub mod Lengths
 pub mod Numbers
 pub mod Splits

@@ -1,13 +1,12 @@
-use Rattle.std.proofs.Common.{◌≡◌, ℕ, Bool, Option, ◌+◌, ◌-◌, ◌*◌, ◌^◌, ◌<◌, ◌≤◌, true, false, cond, ◌&&◌, leb, ltb, ◌⊎◌, List, [], ◌∷◌, length, get_or, drop, Some, None, Ok, Err, Result, decimal, sym, refl, ap, ◌∙◌, inl, inr, rules, arith, lit<}
+use Rattle.std.proofs.Common.{◌≡◌, ℕ, Bool, ◌+◌, ◌-◌, ◌*◌, ◌^◌, ◌<◌, ◌≤◌, true, false, cond, ◌&&◌, leb, ltb, ◌⊎◌, List, [], ◌∷◌, length, Some, None, decimal, refl, ap, ◌∙◌, inl, inr, rules, arith, lit<}
 use Rattle.std.specs.Char.{is_ascii_digit}
 use Rattle.std.specs.List.{list_all}
 use Rattle.std.specs.Str.{IsAscii}
-use Rattle.std.proofs.lemmas.List.{at_drop_more, at_drop_all}
-use Rattle.std.proofs.lemmas.Bool.{cases_lt, le-leb, lt-leb, lt-ltb, le-ltb, and_from, and_left, and_right, cond-true, cond-false}
+use Rattle.std.proofs.lemmas.Bool.{le-leb, lt-leb, lt-ltb, le-ltb, and_from, cond-true, cond-false}
 use Rattle.std.proofs.lemmas.Fmt.{decimal_nonempty, length-decimal-le, digits_decimal, digits_value-decimal}
 use Rattle.std.proofs.lemmas.Str.Ascii.{IsAscii-nil, IsAscii-cons}
 use Rattle.std.proofs.lemmas.Str.Parse.{IsDigitsTest, IsNumeralModel, numerals_by_fold}
-use Rattle.script.specs.Fields.{digits, word, number, bind}
+use Rattle.script.specs.Fields.{digits, word, number, bind, leading_digits, after_digits}
 
 -- each byte is a digit
 abbrev pub Digits : List ℕ → Type 0
@@ -38,38 +37,57 @@ digits_read n (b ∷ bs) =
     [ true ↦ digits_read m bs | false ↦ refl ]
 
 -- a field of 1 to 10 bytes
-number_within : (f : List ℕ) → 1 ≤ length f → length f ≤ 10 → number f ≡ bind (digits 0 f) word
+pub number_within : (f : List ℕ) → 1 ≤ length f → length f ≤ 10 → number f ≡ bind (digits 0 f) word
 number_within f low high = cond-true _ _ _ (and_from _ _ (lt-ltb 0 (length f) low) (le-leb (length f) 10 high))
 
-word_small : (n : ℕ) → n ≤ 4294967295 → word n ≡ Some n
+pub word_small : (n : ℕ) → n ≤ 4294967295 → word n ≡ Some n
 word_small n h = cond-true _ _ _ (lt-ltb n 4294967296 (omega arith))
 
 number_read : (f : List ℕ) → 1 ≤ length f → length f ≤ 10 → Digits f → number f ≡ word (read 0 f)
 number_read f some few h = number_within f some few ∙ ap (λ o. bind o word) (digits_read 0 f ∙ cond-true _ _ _ h)
 
 -- what has passed 2 ^ 32 stays past it
-past : (n : ℕ) (f : List ℕ) → 2 ^ 32 ≤ n → bind (digits n f) word ≡ None
+pub past : (n : ℕ) (f : List ℕ) → 2 ^ 32 ≤ n → bind (digits n f) word ≡ None
 past n [] h = cond-false _ _ _ (le-ltb n 4294967296 (omega (arith, h)))
 past n (b ∷ bs) h =
     let m = n * 10 + (b - 48) in
     let ih : bind (digits m bs) word ≡ None = past m bs (omega (arith, h)) in
     elim (leb 48 b && leb b 57) as (λ t. bind (cond t (digits m bs) None) word ≡ None) [ true ↦ ih | false ↦ refl ]
 
-module _ (f : List ℕ) (n i : ℕ) (some : 1 ≤ length f) (few : length f ≤ 10)
-    (so_far : bind (digits n (drop i f)) word ≡ bind (digits 0 f) word) where
-  -- a digit after which the number does not fit
-  pub number_past : i < length f → is_ascii_digit (get_or f i 0) ≡ true → 2 ^ 32 ≤ n * 10 + (get_or f i 0 - 48) → number f ≡ None
-  number_past within digit large =
-      let b = get_or f i 0 in
-      number_within f some few ∙ sym so_far
-      ∙ at_drop_more (λ bs. bind (digits n bs) word) f i 0 within
-      ∙ ap (λ o. bind o word) (cond-true _ _ _ digit)
-      ∙ past (n * 10 + (b - 48)) (drop (i + 1) f) large
+-- what digits write does not fit, or they are too many, or none
+pub number_none : (f : List ℕ) → bind (digits 0 f) word ≡ None → number f ≡ None
+number_none f h =
+    elim (ltb 0 (length f) && leb (length f) 10) as (λ t. cond t (bind (digits 0 f) word) None ≡ None) [ true ↦ h | false ↦ refl ]
 
-  -- all digits are read
-  pub number_whole : length f ≤ i → n < 2 ^ 32 → number f ≡ Some n
-  number_whole end small =
-      number_within f some few ∙ sym so_far ∙ at_drop_all (λ bs. bind (digits n bs) word) f i end ∙ word_small n (omega (arith, small))
+and_false : (t : Bool) → (t && false) ≡ false
+and_false true = refl
+and_false false = refl
+
+pub number_outside : (f : List ℕ) → (length f ≡ 0) ⊎ (10 < length f) → number f ≡ None
+number_outside f (inl none) = cond-false _ _ _ (ap (λ k. ltb 0 k && leb k 10) none)
+number_outside f (inr many) = cond-false _ _ _ (ap (λ t. ltb 0 (length f) && t) (lt-leb (length f) 10 many) ∙ and_false _)
+
+-- a digit at the front
+digit : (d : ℕ) → d ≤ 9 → (leb 48 (48 + d) && leb (48 + d) 57) ≡ true
+digit d h = and_from _ _ (le-leb 48 (48 + d) (omega arith)) (le-leb (48 + d) 57 (omega (arith, h)))
+
+pub leading_more : (d : ℕ) (bs : List ℕ) → d ≤ 9 → leading_digits ((48 + d) ∷ bs) ≡ (48 + d) ∷ leading_digits bs
+leading_more d bs h = cond-true _ _ _ (digit d h)
+
+pub after_more : (d : ℕ) (bs : List ℕ) → d ≤ 9 → after_digits ((48 + d) ∷ bs) ≡ after_digits bs
+after_more d bs h = cond-true _ _ _ (digit d h)
+
+digits_more : (n d : ℕ) (f : List ℕ) → d ≤ 9 → digits n ((48 + d) ∷ f) ≡ digits (n * 10 + d) f
+digits_more n d f h =
+    let same : n * 10 + (48 + d - 48) ≡ n * 10 + d = omega arith in
+    cond-true _ _ _ (digit d h) ∙ ap (λ m. digits m f) same
+
+-- what a digit at the front of what is left makes of the number so far
+pub read_more : (n d : ℕ) (here after : List ℕ) → here ≡ (48 + d) ∷ after → d ≤ 9
+    → bind (digits n (leading_digits here)) word ≡ bind (digits (n * 10 + d) (leading_digits after)) word
+read_more n d here after e h =
+    ap (λ bs. bind (digits n (leading_digits bs)) word) e ∙ ap (λ f. bind (digits n f) word) (leading_more d after h)
+    ∙ ap (λ o. bind o word) (digits_more n d (leading_digits after) h)
 
 -- a number below 2 ^ 32 is read back
 pub number_decimal : (n : ℕ) → n < 2 ^ 32 → number (decimal n) ≡ Some n

@@ -34,6 +34,16 @@ word n = cond (nat_lt n 4294967296) (Some n) None
 abbrev pub number : List ℕ → Option ℕ
 number f = cond (nat_lt 0 (length f) && nat_le (length f) 10) (bind (digits 0 f) word) None
 
+-- the digits at the front of a list of bytes
+abbrev pub leading_digits : List ℕ → List ℕ
+leading_digits [] = []
+leading_digits (b ∷ bs) = cond (nat_le 48 b && nat_le b 57) (b ∷ leading_digits bs) []
+
+-- what follows them
+abbrev pub after_digits : List ℕ → List ℕ
+after_digits [] = []
+after_digits (b ∷ bs) = cond (nat_le 48 b && nat_le b 57) (after_digits bs) (b ∷ bs)
+
 -- the first field; an empty one where there is none
 abbrev pub first : List (List ℕ) → List ℕ
 first [] = []

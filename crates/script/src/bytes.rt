@@ -1,9 +1,7 @@
 //! Bytes: cut at one, and the numbers that they write.
-ghost use Rattle.std.specs.Prelude.{◌≡◌, ◌∷◌};
-ghost use Rattle.std.specs.Char.{is_ascii_digit};
-ghost use Rattle.std.specs.List.{list_all};
+ghost use Rattle.std.specs.Prelude.{◌≡◌, ◌+◌, ◌≤◌, [], ◌∷◌, Some, None, MatchOption};
 ghost use Rattle.std.specs.Option.{option_map};
-ghost use Rattle.script.specs.Fields.{split, left, number};
+ghost use Rattle.script.specs.Fields.{split, left, first, others, number, leading_digits, after_digits};
 
 /// The bytes before the first byte `b`, and those after it; all, where there is none.
 pub(crate) fn cut(bytes: &[u8], b: u8) -> (&[u8], Option<&[u8]>)
@@ -13,21 +11,45 @@ pub(crate) fn cut(bytes: &[u8], b: u8) -> (&[u8], Option<&[u8]>)
     (&bytes[..end], bytes.get(end + 1..))
 }
 
-/// The number that a field writes: 1 to 10 digits, and below 2 to the 32nd.
-pub(crate) fn numeral(field: &[u8]) -> Option<u32>
-    ensures { result ≡ number field.now }
+/// The digit at the front, and what follows it.
+#[inline(always)]
+fn leading_digit(bytes: &[u8]) -> Option<(u32, &[u8])>
+    ensures { MatchOption result ((leading_digits bytes.now ≡ []) × (after_digits bytes.now ≡ bytes.now)) (λ r. (bytes.now ≡ (48 + r.0) ∷ r.1.now) × (r.0 ≤ 9)) }
 {
-    if field.is_empty() || field.len() > 10 {
+    match bytes {
+        [digit @ b'0'..=b'9', after @ ..] => Some((u32::from(*digit - b'0'), after)),
+        _ => None,
+    }
+}
+
+/// The number that the digits at the front write, of 1 to 10 digits and below 2 to the 32nd, and what
+/// follows them.
+#[inline(always)]
+fn leading_number(bytes: &[u8]) -> Option<(u32, &[u8])>
+    ensures { MatchOption result (number (leading_digits bytes.now) ≡ None) (λ r. (number (leading_digits bytes.now) ≡ Some r.0) × (r.1.now ≡ after_digits bytes.now)) }
+{
+    let mut number = 0u32;
+    let mut rest = bytes;
+    while let Some((digit, after)) = leading_digit(rest) {
+        number = number.checked_mul(10)?.checked_add(digit)?;
+        rest = after;
+    }
+    let count = bytes.len() - rest.len();
+    if count == 0 || count > 10 {
         return None;
     }
-    let mut number = 0u32;
-    for byte in field {
-        if !byte.is_ascii_digit() {
-            return None;
-        }
-        number = number
-            .checked_mul(10)?
-            .checked_add(u32::from(*byte - b'0'))?;
-    }
-    Some(number)
+    Some((number, rest))
+}
+
+/// The number of the first field, and the bytes of the fields after it, where there are any; none where
+/// the field is no number.
+#[inline(always)]
+pub(crate) fn first_number(bytes: &[u8]) -> Option<(u32, Option<&[u8]>)>
+    ensures { MatchOption result (number (first (split 32 bytes.now)) ≡ None) (λ r. (number (first (split 32 bytes.now)) ≡ Some r.0) × (others (split 32 bytes.now) ≡ left 32 (option_map (λ x. x.now) r.1))) }
+{
+    let (number, after) = leading_number(bytes)?;
+    let Some((byte, rest)) = after.split_first() else {
+        return Some((number, None));
+    };
+    (*byte == b' ').then_some((number, Some(rest)))
 }

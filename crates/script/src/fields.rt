@@ -4,7 +4,7 @@ ghost use Rattle.std.specs.Iterator.{YieldsFirstRef, item_count};
 ghost use Rattle.script.specs.Fields.{first, others, split, number, end};
 ghost use Rattle.script.specs.Lines.{letter_of};
 
-use crate::bytes::{cut, numeral};
+use crate::bytes::{cut, first_number};
 use std::marker::Model;
 
 /// The fields that are left of a line; a blank stands between two.
@@ -49,7 +49,16 @@ impl<'a> Fields<'a> {
         ensures value { result ≡ number (first self.old) }
         ensures after { self.new ≡ others self.old }
     {
-        numeral(self.next()?)
+        match first_number(self.rest?) {
+            Some((number, rest)) => {
+                self.rest = rest;
+                Some(number)
+            }
+            None => {
+                self.next();
+                None
+            }
+        }
     }
 
     /// The letter that the next field is.

@@ -98,7 +98,7 @@ fn answers_are_lines(rt: HostRuntime) -> Result<(), Fail> {
     }
     assert_eq!(rt;
         out.as_slice(),
-        b"1 started\n2 sent\n3 served\n4 load 5 0\n5 load 5 7\n6 refused 7 lease still runs\n7 store 5\n8 atomic 5 7\n9 fault 5 1\n10 tick 4294967295\n11 refused 11 word unreadable\n"
+        b"1 started\n2 sent\n3 served\n4 load 5 0\n5 load 5 7\n6 refused 7 lease still runs\n7 store 5\n8 atomic 5 7\n9 fault 5 1\n10 tick 4294967295\n11 refused 11 word unreadable\n".as_slice()
     );
     Ok(())
 }
@@ -112,7 +112,13 @@ fn outcomes_tell_their_causes(rt: HostRuntime) {
         block,
     });
     assert_eq!(rt; fault.cause(), Some(Refusal::Unreadable { block, address }));
-    assert_eq!(rt; Outcome::Refused(Refusal::LeaseRuns).cause(), Some(Refusal::LeaseRuns));
-    assert_eq!(rt; Outcome::Delivered(Delivered::Store { wave, address }).cause(), None);
+    assert_eq!(rt;
+        Outcome::Refused(Refusal::LeaseRuns).cause(),
+        Some(Refusal::LeaseRuns)
+    );
+    assert_eq!(rt;
+        Outcome::Delivered(Delivered::Store { wave, address }).cause(),
+        None
+    );
     assert_eq!(rt; Outcome::Sent.cause(), None);
 }

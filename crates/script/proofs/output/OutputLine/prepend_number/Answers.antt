@@ -1,4 +1,4 @@
-use Rattle.std.proofs.Common.{◌≡◌, ◌+◌, ◌≤◌, length, decimal, drop, ap, sym, arith, length-drop, length-append}
+use Rattle.std.proofs.Common.{◌≡◌, length, decimal, drop, ap, sym, arith, length-drop, length-append}
 use Rattle.script.proofs.Lengths.{number_length}
 use Rattle.script.proofs.output.OutputLine.prepend_number.Goals as goal
 
