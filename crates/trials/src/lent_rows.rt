@@ -1,21 +1,28 @@
 //! What a caller holds of the rows that it lent, once what it made of them is gone.
-ghost use Rattle.std.specs.Prelude.{◌≡◌, ℕ, ◌*◌, cond, length, min, nat_le, slice_set};
+ghost use Rattle.std.specs.Prelude.{◌≡◌, ℕ, ◌*◌, cond, length, min, nat_le, slice_index, slice_set};
 ghost use Rattle.sizes.specs.declared.TheConstants.{LANES, WORDS};
 ghost use Rattle.lanes.specs.Rings.{row_depth};
-ghost use Rattle.memories.specs.Cells.{write_cells};
+ghost use Rattle.memories.specs.Cells.{word, write_cells};
 ghost use Rattle.memories.specs.Splits.{split_cell, split_size};
 ghost use Rattle.images.specs.Blocks.{BytesKept, cell_of, size_of};
 
 use crate::scenes::zero_blocks;
+use calls::call::Call;
+use calls::outcome::Outcome;
 use hops::hop::Hop;
 use images::image::Image;
 use lanes::net::{LaneError, LaneNet};
 use lanes::ring::Ring;
+use lifetimes::fixed::Fixed;
+use machine::machine::{Machine, Parts};
+use machine::tables::Tables;
 use memories::memory::{Fault, Memory};
 use memories::split::Split;
 use memories::words::Words;
+use messages::answer::Answer;
 use messages::request::Request;
 use packs::packed::Packed;
+use std::test::Fail;
 
 // Writes a word into a row.
 fn write_row(row: &mut [u32], address: u32, value: u32) -> Result<(), Fault>
@@ -55,7 +62,12 @@ fn write_apart<A: Memory, B: Memory>(first: A, second: B, address: u32, value: u
 }
 
 // Puts a message and takes one through a hop, and gives its parts back.
-fn put_apart<M: Drop, F: LaneNet<M>, N: LaneNet<M>>(far: F, near: N, lane: u32, message: M) -> (F, N)
+fn put_apart<M: Drop, F: LaneNet<M>, N: LaneNet<M>>(
+    far: F,
+    near: N,
+    lane: u32,
+    message: M,
+) -> (F, N)
     ensures far { F.LaneNet.loan result.0 ≡ F.LaneNet.loan far }
     ensures near { N.LaneNet.loan result.1 ≡ N.LaneNet.loan near }
 {
@@ -63,6 +75,26 @@ fn put_apart<M: Drop, F: LaneNet<M>, N: LaneNet<M>>(far: F, near: N, lane: u32, 
     let _ = hop.put(lane, message);
     let _ = hop.take(lane);
     hop.into_parts()
+}
+
+// Makes a call of a machine over the caller's rows. No call but an eviction writes to memory.
+fn tick_over(
+    tables: Tables,
+    requests: &mut [Request],
+    answers: &mut [Answer],
+    words: &mut [u32],
+) -> Outcome
+    ensures words { (k : ℕ) → word (slice_index words.new k) ≡ word (slice_index words.old k) }
+    ensures length { length words.new ≡ length words.old }
+{
+    let parts = Parts {
+        requests: Ring::new(requests),
+        answers: Ring::new(answers),
+        memory: Words::new(words),
+        policy: Fixed::new(10),
+    };
+    let mut machine = Machine::new(parts, tables);
+    machine.make(Call::Tick)
 }
 
 #[test]
@@ -103,4 +135,16 @@ fn parts_come_back(rt: HostRuntime) {
     let (far, near) = put_apart(Ring::new(&mut row), Packed::new(), 0, load);
     assert_eq!(rt; far.count(0), 0);
     assert_eq!(rt; near.count(0), 0);
+}
+
+#[test]
+fn words_come_back_from_a_machine(rt: HostRuntime) -> Result<(), Fail> {
+    let mut requests = [Request::FILLER; 16];
+    let mut answers = [Answer::FILLER; 16];
+    let mut words = [7u32; 8];
+    let tables = Tables::new(rt.alloc())?;
+    let outcome = tick_over(tables, &mut requests, &mut answers, &mut words);
+    assert_eq!(rt; outcome, Outcome::Ticked(2));
+    assert_eq!(rt; words, [7; 8]);
+    Ok(())
 }
