@@ -202,14 +202,14 @@ fn measure(work: &Work) -> Result<(f64, f64), String> {
         return Err("the libraries answer differently".into());
     }
     let mut rounds = 1;
-    while least(1, || _ = black_box(on_proved(work, rounds))) < Duration::from_millis(10)
+    while least(1, || _ = black_box(on_proved(work, rounds))) < Duration::from_millis(4)
         && rounds < 1 << 24
     {
         rounds *= 2;
     }
     let (mut proved, mut model) = (Duration::MAX, Duration::MAX);
     let (mut proved_before, mut model_before) = (Duration::MAX, Duration::MAX);
-    for _ in 0..9 {
+    for _ in 0..25 {
         proved_before = proved_before.min(least(1, || _ = black_box(on_proved(work, 0))));
         model_before = model_before.min(least(1, || _ = black_box(on_model(work, 0))));
         proved = proved.min(least(1, || _ = black_box(on_proved(work, rounds))));
