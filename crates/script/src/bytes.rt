@@ -27,7 +27,7 @@ fn leading_digit(bytes: &[u8]) -> Option<(u32, &[u8])>
 fn with_digit(number: u32, digit: u32) -> Option<u32>
     ensures { MatchOption result (2 ^ 32 ≤ number * 10 + digit) (λ n. (n ≡ number * 10 + digit) × (n < 2 ^ 32)) }
 {
-    number.checked_mul(10)?.checked_add(digit)
+    u32::try_from(u64::from(number) * 10 + u64::from(digit)).ok()
 }
 
 /// Whether a number may have so many digits.
