@@ -1,8 +1,8 @@
-use Rattle.std.proofs.Common.{◌≡◌, ℕ, Bool, ◌+◌, ◌-◌, ◌*◌, ◌^◌, ◌<◌, ◌≤◌, true, false, cond, ◌&&◌, leb, ltb, ◌⊎◌, List, [], ◌∷◌, length, Some, None, decimal, refl, ap, ◌∙◌, inl, inr, rules, arith, lit<}
+use Rattle.std.proofs.Common.{◌≡◌, ℕ, ◌+◌, ◌-◌, ◌*◌, ◌^◌, ◌<◌, ◌≤◌, true, false, cond, ◌&&◌, leb, ltb, List, [], ◌∷◌, length, Some, None, decimal, refl, ap, ◌∙◌, rules, arith, lit<}
 use Rattle.std.specs.Char.{is_ascii_digit}
 use Rattle.std.specs.List.{list_all}
 use Rattle.std.specs.Str.{IsAscii}
-use Rattle.std.proofs.lemmas.Bool.{le-leb, lt-leb, lt-ltb, le-ltb, and_from, cond-true, cond-false}
+use Rattle.std.proofs.lemmas.Bool.{le-leb, lt-ltb, le-ltb, and_from, cond-true, cond-false}
 use Rattle.std.proofs.lemmas.Fmt.{decimal_nonempty, length-decimal-le, digits_decimal, digits_value-decimal}
 use Rattle.std.proofs.lemmas.Str.Ascii.{IsAscii-nil, IsAscii-cons}
 use Rattle.std.proofs.lemmas.Str.Parse.{IsDigitsTest, IsNumeralModel, numerals_by_fold}
@@ -37,7 +37,7 @@ digits_read n (b ∷ bs) =
     [ true ↦ digits_read m bs | false ↦ refl ]
 
 -- a field of 1 to 10 bytes
-pub number_within : (f : List ℕ) → 1 ≤ length f → length f ≤ 10 → number f ≡ bind (digits 0 f) word
+number_within : (f : List ℕ) → 1 ≤ length f → length f ≤ 10 → number f ≡ bind (digits 0 f) word
 number_within f low high = cond-true _ _ _ (and_from _ _ (lt-ltb 0 (length f) low) (le-leb (length f) 10 high))
 
 pub word_small : (n : ℕ) → n ≤ 4294967295 → word n ≡ Some n
@@ -54,18 +54,17 @@ past n (b ∷ bs) h =
     let ih : bind (digits m bs) word ≡ None = past m bs (omega (arith, h)) in
     elim (leb 48 b && leb b 57) as (λ t. bind (cond t (digits m bs) None) word ≡ None) [ true ↦ ih | false ↦ refl ]
 
--- what digits write does not fit, or they are too many, or none
+-- what digits write does not fit
 pub number_none : (f : List ℕ) → bind (digits 0 f) word ≡ None → number f ≡ None
 number_none f h =
     elim (ltb 0 (length f) && leb (length f) 10) as (λ t. cond t (bind (digits 0 f) word) None ≡ None) [ true ↦ h | false ↦ refl ]
 
-and_false : (t : Bool) → (t && false) ≡ false
-and_false true = refl
-and_false false = refl
+-- they are as many as a number may have, or not
+pub number_fit : (f : List ℕ) (k : ℕ) → k ≡ length f → (ltb 0 k && leb k 10) ≡ true → number f ≡ bind (digits 0 f) word
+number_fit f k same h = cond-true _ _ _ (rw same at h)
 
-pub number_outside : (f : List ℕ) → (length f ≡ 0) ⊎ (10 < length f) → number f ≡ None
-number_outside f (inl none) = cond-false _ _ _ (ap (λ k. ltb 0 k && leb k 10) none)
-number_outside f (inr many) = cond-false _ _ _ (ap (λ t. ltb 0 (length f) && t) (lt-leb (length f) 10 many) ∙ and_false _)
+pub number_unfit : (f : List ℕ) (k : ℕ) → k ≡ length f → (ltb 0 k && leb k 10) ≡ false → number f ≡ None
+number_unfit f k same h = cond-false _ _ _ (rw same at h)
 
 -- a digit at the front
 digit : (d : ℕ) → d ≤ 9 → (leb 48 (48 + d) && leb (48 + d) 57) ≡ true

@@ -1,5 +1,5 @@
 //! Bytes: cut at one, and the numbers that they write.
-ghost use Rattle.std.specs.Prelude.{◌≡◌, ◌+◌, ◌≤◌, [], ◌∷◌, Some, None, MatchOption};
+ghost use Rattle.std.specs.Prelude.{◌≡◌, ◌+◌, ◌*◌, ◌^◌, ◌<◌, ◌≤◌, ◌&&◌, nat_lt, nat_le, [], ◌∷◌, Some, None, MatchOption};
 ghost use Rattle.std.specs.Option.{option_map};
 ghost use Rattle.script.specs.Fields.{split, left, first, others, number, leading_digits, after_digits};
 
@@ -22,6 +22,22 @@ fn leading_digit(bytes: &[u8]) -> Option<(u32, &[u8])>
     }
 }
 
+/// The number with one digit more at its end, where it stays below 2 to the 32nd.
+#[inline(always)]
+fn with_digit(number: u32, digit: u32) -> Option<u32>
+    ensures { MatchOption result (2 ^ 32 ≤ number * 10 + digit) (λ n. (n ≡ number * 10 + digit) × (n < 2 ^ 32)) }
+{
+    u32::try_from(u64::from(number) * 10 + u64::from(digit)).ok()
+}
+
+/// Whether a number may have so many digits.
+#[inline(always)]
+fn is_digit_count(count: usize) -> bool
+    ensures { result ≡ (nat_lt 0 count && nat_le count 10) }
+{
+    count > 0 && count <= 10
+}
+
 /// The number that the digits at the front write, of 1 to 10 digits and below 2 to the 32nd, and what
 /// follows them.
 #[inline(always)]
@@ -31,11 +47,10 @@ fn leading_number(bytes: &[u8]) -> Option<(u32, &[u8])>
     let mut number = 0u32;
     let mut rest = bytes;
     while let Some((digit, after)) = leading_digit(rest) {
-        number = number.checked_mul(10)?.checked_add(digit)?;
+        number = with_digit(number, digit)?;
         rest = after;
     }
-    let count = bytes.len() - rest.len();
-    if count == 0 || count > 10 {
+    if !is_digit_count(bytes.len() - rest.len()) {
         return None;
     }
     Some((number, rest))
