@@ -55,7 +55,12 @@ fn write_apart<A: Memory, B: Memory>(first: A, second: B, address: u32, value: u
 }
 
 // Puts a message and takes one through a hop, and gives its parts back.
-fn put_apart<M: Drop, F: LaneNet<M>, N: LaneNet<M>>(far: F, near: N, lane: u32, message: M) -> (F, N)
+fn put_apart<M: Drop, F: LaneNet<M>, N: LaneNet<M>>(
+    far: F,
+    near: N,
+    lane: u32,
+    message: M,
+) -> (F, N)
     ensures far { F.LaneNet.loan result.0 ≡ F.LaneNet.loan far }
     ensures near { N.LaneNet.loan result.1 ≡ N.LaneNet.loan near }
 {

@@ -24,6 +24,6 @@ returns c =
     on_board s f
     (λ k. rw p.0 (c.new.ensures.empty k)) (rw (p.0, c.new.ensures.depth, requests) refl)
     (λ k. rw p.1 (c.new-2.ensures.empty k)) (rw (p.1, c.new-2.ensures.depth, answers) refl)
-    (rw (p.2, c.new-3.ensures, words) refl) (λ a. rw (p.2, c.new-3.ensures, words) (ap word (zeros 4096 a)))
+    (rw (p.2, c.new-3.ensures.words, words) refl) (λ a. rw (p.2, c.new-3.ensures.words, words) (ap word (zeros 4096 a)))
     (string_bytes c.play.new.out) (string_bytes c.new-out.result) m.policy.lifetime (script (take 65536 c.args.input.now))
     c.in_ok-play.ensures.bytes c.new-out.ensures.bytes (rw p.3 c.new-4.ensures)
