@@ -7,7 +7,7 @@ use Rattle.lifetimes.specs.Told.{Told}
 use Rattle.messages.specs.declared.request.Request.{Request}
 use Rattle.messages.specs.declared.answer.Answer.{Answer}
 use Rattle.machine.specs.declared.machine.Machine.{Machine}
-use Rattle.machine.specs.View.{loans, view}
+use Rattle.machine.specs.View.{SameLoans, view}
 use Rattle.rules.specs.Transitions.{Transition}
 use Rattle.rules.specs.State.{State}
 
@@ -18,4 +18,4 @@ module _ {Q R M P : Type 0} (q : net.Ghosts Q Request) (r : net.Ghosts R Answer)
     pub after : view q r m t ≡ (step (view q r m s)).after
     pub told : Told p.heard s.policy (step (view q r m s)).events t.policy
     -- and the nets and the memory keep what they were lent
-    pub lent : loans q r m t ≡ loans q r m s
+    pub lent : SameLoans q r m s t

@@ -1,4 +1,5 @@
 -- A machine as the rule book has it, by the meanings of its nets and its memory.
+use Rattle.std.specs.Prelude.{◌≡◌}
 use Rattle.lanes.specs.declared.net.LaneNet as net
 use Rattle.memories.specs.declared.memory.Memory as memory
 use Rattle.messages.specs.declared.request.Request.{Request}
@@ -20,6 +21,8 @@ view q r m s = record {
   memory = memory_state m s.memory;
 }
 
--- what the nets and the memory were lent
-abbrev pub loans : {Q R M P : Type 0} (q : net.Ghosts Q Request) (r : net.Ghosts R Answer) (m : memory.Ghosts M) → Machine Q R M P → q.Loan × r.Loan × m.Loan
-loans q r m s = (q.loan s.requests, r.loan s.answers, m.loan s.memory)
+-- the nets and the memory of one machine hold the loans of those of the other
+pub record SameLoans {Q R M P : Type 0} (q : net.Ghosts Q Request) (r : net.Ghosts R Answer) (m : memory.Ghosts M) (s t : Machine Q R M P) : Type 0 where
+  pub requests : q.loan t.requests ≡ q.loan s.requests
+  pub answers : r.loan t.answers ≡ r.loan s.answers
+  pub memory : m.loan t.memory ≡ m.loan s.memory

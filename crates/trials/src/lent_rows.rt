@@ -1,19 +1,19 @@
 //! What a caller holds of the rows that it lent, once what it made of them is gone.
-ghost use Rattle.std.specs.Prelude.{◌≡◌, ℕ, ◌*◌, cond, length, min, nat_le, slice_index, slice_set};
+ghost use Rattle.std.specs.Prelude.{◌≡◌, ℕ, ◌*◌, cond, length, min, nat_le, slice_set};
 ghost use Rattle.sizes.specs.declared.TheConstants.{LANES, WORDS};
 ghost use Rattle.lanes.specs.Rings.{row_depth};
-ghost use Rattle.memories.specs.Cells.{word, write_cells};
+ghost use Rattle.memories.specs.Cells.{write_cells};
 ghost use Rattle.memories.specs.Splits.{split_cell, split_size};
 ghost use Rattle.images.specs.Blocks.{BytesKept, cell_of, size_of};
 
 use crate::scenes::zero_blocks;
 use calls::call::Call;
-use calls::outcome::Outcome;
 use hops::hop::Hop;
 use images::image::Image;
 use lanes::net::{LaneError, LaneNet};
 use lanes::ring::Ring;
 use lifetimes::fixed::Fixed;
+use lifetimes::policy::LifetimePolicy;
 use machine::machine::{Machine, Parts};
 use machine::tables::Tables;
 use memories::memory::{Fault, Memory};
@@ -77,24 +77,19 @@ fn put_apart<M: Drop, F: LaneNet<M>, N: LaneNet<M>>(
     hop.into_parts()
 }
 
-// Makes a call of a machine over the caller's rows. No call but an eviction writes to memory.
-fn tick_over(
+// Makes a call of a machine of these parts, and gives them back. No call but an eviction writes to memory.
+fn tick_of<Q: LaneNet<Request>, R: LaneNet<Answer>, M: Memory, P: LifetimePolicy>(
     tables: Tables,
-    requests: &mut [Request],
-    answers: &mut [Answer],
-    words: &mut [u32],
-) -> Outcome
-    ensures words { (k : ℕ) → word (slice_index words.new k) ≡ word (slice_index words.old k) }
-    ensures length { length words.new ≡ length words.old }
+    parts: Parts<Q, R, M, P>,
+) -> Parts<Q, R, M, P>
+    ensures words { (k : ℕ) → M.Memory.cell result.memory k ≡ M.Memory.cell parts.memory k }
+    ensures requests { Q.LaneNet.loan result.requests ≡ Q.LaneNet.loan parts.requests }
+    ensures answers { R.LaneNet.loan result.answers ≡ R.LaneNet.loan parts.answers }
+    ensures memory { M.Memory.loan result.memory ≡ M.Memory.loan parts.memory }
 {
-    let parts = Parts {
-        requests: Ring::new(requests),
-        answers: Ring::new(answers),
-        memory: Words::new(words),
-        policy: Fixed::new(10),
-    };
     let mut machine = Machine::new(parts, tables);
-    machine.make(Call::Tick)
+    let _ = machine.make(Call::Tick);
+    machine.into_parts()
 }
 
 #[test]
@@ -138,13 +133,18 @@ fn parts_come_back(rt: HostRuntime) {
 }
 
 #[test]
-fn words_come_back_from_a_machine(rt: HostRuntime) -> Result<(), Fail> {
+fn parts_come_back_from_a_machine(rt: HostRuntime) -> Result<(), Fail> {
     let mut requests = [Request::FILLER; 16];
     let mut answers = [Answer::FILLER; 16];
     let mut words = [7u32; 8];
     let tables = Tables::new(rt.alloc())?;
-    let outcome = tick_over(tables, &mut requests, &mut answers, &mut words);
-    assert_eq!(rt; outcome, Outcome::Ticked(2));
-    assert_eq!(rt; words, [7; 8]);
+    let parts = Parts {
+        requests: Ring::new(&mut requests),
+        answers: Ring::new(&mut answers),
+        memory: Words::new(&mut words),
+        policy: Fixed::new(10),
+    };
+    let Parts { memory, .. } = tick_of(tables, parts);
+    assert_eq!(rt; memory.read(7), Ok(7));
     Ok(())
 }
