@@ -2,13 +2,13 @@
 use Rattle.std.specs.Prelude.{◌≡◌, ◌≤◌, count_by, is_some, length, nat_le, vec_items, vec_len}
 use Rattle.sizes.specs.declared.TheConstants.{KEPT_STAMPS, LANES, LINES, WORDS}
 use Rattle.rules.specs.State.{BankState}
-use Rattle.bank.specs.declared.bank_table.Bank.TheInside.{Inside as Tables}
+use Rattle.bank.specs.declared.bank_table.Bank.TheInside.{Inside as BankTables}
 
-abbrev pub bank_state : Tables → BankState
+abbrev pub bank_state : BankTables → BankState
 bank_state b = record { lines = vec_items b.lines; kept = vec_items b.kept; waiting = b.waiting }
 
--- the sizes of the bank's tables, of which no call changes one, and what is counted beside them
-pub record HasSizes (b : Tables) : Type 0 where
+-- the bounds of the bank's tables, which every call keeps, and what is counted beside them
+pub record InBounds (b : BankTables) : Type 0 where
   pub lines : vec_len b.lines ≡ WORDS
   pub line_count : b.line_count ≡ count_by is_some b.lines.items
   pub line_room : b.line_count ≤ LINES

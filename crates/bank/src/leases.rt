@@ -4,7 +4,7 @@ ghost use Rattle.lifetimes.specs.declared.policy.Event.TheVariants.{LoadMetOver,
 ghost use Rattle.lifetimes.specs.Told.{Told};
 ghost use Rattle.rules.specs.Stamps.{runs};
 ghost use Rattle.rules.specs.Bank.{live};
-ghost use Rattle.rules.specs.Serving.{stamped, written};
+ghost use Rattle.rules.specs.Serving.{stamped, with_word};
 
 use lifetimes::policy::{Event, LifetimePolicy};
 use rules::clock::Clock;
@@ -43,7 +43,7 @@ pub(crate) fn write<P: LifetimePolicy>(
     policy: &mut P,
 ) -> u32
     ensures value { result ≡ live line.old.stamp clock }
-    ensures after { line.new ≡ written line.old value }
+    ensures after { line.new ≡ with_word line.old value }
     ensures told { Told P.LifetimePolicy.heard policy.old (cond (runs line.old.stamp clock) (WriteMetRunning ∷ []) []) policy.new }
 {
     line.value = value;

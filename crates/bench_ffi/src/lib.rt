@@ -7,7 +7,7 @@ ghost use Rattle.calls.specs.declared.call.Call.TheVariants as call;
 use calls::call::{Call, Protocol};
 use calls::outcome::{Delivered, Outcome};
 use lanes::net::LaneNet;
-use lanes::ring::Ring;
+use lanes::ring::{RING_DEPTH, Ring};
 use lifetimes::fixed::Fixed;
 use machine::machine::{Machine, Parts};
 use machine::tables::Tables;
@@ -17,9 +17,6 @@ use messages::answer::Answer;
 use messages::request::Request;
 use sizes::{LANES, WORDS};
 use std::alloc::{AllocError, Global};
-
-/// Messages that a lane of either net takes.
-const DEPTH: usize = 32;
 
 /// The call that four words name: kind, core, address and value. Waves are 0.
 fn call_of(kind: u32, core: u32, address: u32, value: u32) -> Call
@@ -87,8 +84,8 @@ fn run(
     calls: &[u32],
     rounds: u32,
 ) -> Result<u32, AllocError> {
-    let mut requests = vec![in heap; Request::FILLER; LANES * DEPTH]?;
-    let mut answers = vec![in heap; Answer::FILLER; LANES * DEPTH]?;
+    let mut requests = vec![in heap; Request::FILLER; LANES * RING_DEPTH]?;
+    let mut answers = vec![in heap; Answer::FILLER; LANES * RING_DEPTH]?;
     let mut words = vec![in heap; 0u32; WORDS]?;
     let before = calls_of(heap, before)?;
     let calls = calls_of(heap, calls)?;
@@ -112,8 +109,7 @@ fn run(
 
 /// A number for all that the calls came to, under TC-Strong or else under TC-Weak; 0 for want of memory.
 /// `before` and `calls` have four words for a call.
-#[unsafe(no_mangle)]
-pub extern "C" fn bench_ffi_run(
+pub fn run_rows(
     heap: Global,
     cores: u32,
     strong: bool,

@@ -15,5 +15,5 @@ pub extern "C" fn bench_ffi_run(
     calls: &[u32],
     rounds: u32,
 ) -> u32 {
-    bench_ffi::bench_ffi_run(heap, cores, strong, lifetime, before, calls, rounds)
+    bench_ffi::run_rows(heap, cores, strong, lifetime, before, calls, rounds)
 }

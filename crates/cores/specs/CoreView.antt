@@ -5,9 +5,9 @@ use Rattle.sizes.specs.declared.TheConstants.{COPY_PLACES, PENDING_REQUESTS, WAV
 use Rattle.messages.specs.Requests.{wave_of}
 use Rattle.rules.specs.State.{CoreState}
 use Rattle.cores.specs.declared.core_table.Wave.{Wave}
-use Rattle.cores.specs.declared.core_table.Core.TheInside.{Inside as Tables}
+use Rattle.cores.specs.declared.core_table.Core.TheInside.{Inside as CoreTables}
 
-abbrev pub core_state : Tables → CoreState
+abbrev pub core_state : CoreTables → CoreState
 core_state c = record {
   copies = c.copies;
   pending = c.pending.items;
@@ -15,8 +15,8 @@ core_state c = record {
   fences = map (λ (w : Wave). w.fenced) c.waves;
 }
 
--- the sizes of a core's tables, of which no call changes one
-pub record HasSizes (c : Tables) : Type 0 where
+-- the bounds of a core's tables, which every call keeps
+pub record InBounds (c : CoreTables) : Type 0 where
   pub reserved : PENDING_REQUESTS ≤ deque_capacity c.pending
   pub pending : deque_len c.pending ≤ PENDING_REQUESTS
   pub copies : length c.copies ≡ COPY_PLACES

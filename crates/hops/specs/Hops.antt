@@ -21,4 +21,4 @@ module _ {F N A : Type 0} (f : net.Ghosts F A) (n : net.Ghosts N A) where
   pub record SameNets (s t : Hop F N) : Type 0 where
     pub far : f.depth t.far ≡ f.depth s.far
     pub near : n.depth t.near ≡ n.depth s.near
-    pub loan : hop_loan t ≡ hop_loan s
+    pub lent : hop_loan t ≡ hop_loan s

@@ -20,7 +20,7 @@ impl<'a> Image<'a> {
     /// A memory that holds what the caller's bytes hold.
     pub fn new(image: &'a mut [u8]) -> Image<'a>
         ensures bytes { result.bytes.now ≡ image.old }
-        ensures loan { result.bytes.ghost_name ≡ image.entry.ghost_name }
+        ensures lent { result.bytes.ghost_name ≡ image.entry.ghost_name }
     {
         Image { bytes: image }
     }
@@ -47,7 +47,7 @@ impl<'a> Image<'a> {
         ensures cells { (k : ℕ) → image_cell self.new k ≡ put_cells (image_cell self.old) address word k }
         ensures same { image_size self.new ≡ image_size self.old }
         ensures bytes { WordAlone address self.old.bytes.now self.new.bytes.now }
-        ensures kept { image_loan self.new ≡ image_loan self.old }
+        ensures lent { image_loan self.new ≡ image_loan self.old }
     {
         let address = address as usize;
         let start = 512 * (address / 126);
@@ -82,7 +82,7 @@ impl<'a> Memory for Image<'a> {
         ensures answer { result ≡ write_answer (image_size self.old) (image_cell self.old) address }
         ensures cells { (k : ℕ) → image_cell self.new k ≡ write_cells (image_size self.old) (image_cell self.old) address word k }
         ensures same { image_size self.new ≡ image_size self.old }
-        ensures kept { image_loan self.new ≡ image_loan self.old }
+        ensures lent { image_loan self.new ≡ image_loan self.old }
         ensures bytes { BytesKept address self.old.bytes.now self.new.bytes.now result }
     {
         self.block(address)?;

@@ -1,10 +1,10 @@
 -- The tables as the rule book has them.
 use Rattle.std.specs.Prelude.{◌≡◌, ◌+◌, ◌≤◌, vec_capacity, vec_items, vec_len}
 use Rattle.sizes.specs.declared.TheConstants.{LANES}
-use Rattle.machine.specs.declared.tables.Tables.TheInside.{Inside as Fields}
+use Rattle.machine.specs.declared.tables.Tables.TheInside.{Inside as MachineTables}
 use Rattle.rules.specs.State.{TablesState}
 
-abbrev pub tables_state : Fields → TablesState
+abbrev pub tables_state : MachineTables → TablesState
 tables_state t = record {
   clock = t.clock;
   protocol = t.protocol;
@@ -12,8 +12,8 @@ tables_state t = record {
   bank = t.bank;
 }
 
--- ticks begin at 1, and the cores and those in reserve are as many as lanes
-pub record HasSizes (t : Fields) : Type 0 where
+-- the bounds of the tables, which every call keeps: ticks begin at 1, and the cores and those in reserve are as many as lanes
+pub record InBounds (t : MachineTables) : Type 0 where
   pub ticks : 1 ≤ t.clock
   pub reserved : LANES ≤ vec_capacity t.cores
   pub cores : vec_len t.cores + vec_len t.spare ≡ LANES

@@ -7,7 +7,7 @@ ghost use Rattle.player.specs.Played.{played};
 ghost use Rattle.player.specs.Board.{board};
 
 use crate::play::play;
-use lanes::ring::Ring;
+use lanes::ring::{RING_DEPTH, Ring};
 use lifetimes::fixed::Fixed;
 use machine::machine::{Machine, Parts};
 use machine::tables::Tables;
@@ -16,9 +16,6 @@ use messages::answer::Answer;
 use messages::request::Request;
 use sizes::{LANES, WORDS};
 use std::alloc::{AllocError, Global};
-
-/// How many messages a lane of tcrun's nets takes.
-const DEPTH: usize = 32;
 
 /// The memory: zero words.
 fn zero_words(heap: Global) -> Result<Vec<u32>, AllocError>
@@ -31,8 +28,8 @@ fn zero_words(heap: Global) -> Result<Vec<u32>, AllocError>
 pub fn run(heap: Global, input: &[u8]) -> Result<Vec<u8>, AllocError>
     ensures { IfOk result (λ out. out.items ≡ played board 10 0 (script (take INPUT_BYTES input.now))) }
 {
-    let mut requests = vec![in heap; Request::FILLER; LANES * DEPTH]?;
-    let mut answers = vec![in heap; Answer::FILLER; LANES * DEPTH]?;
+    let mut requests = vec![in heap; Request::FILLER; LANES * RING_DEPTH]?;
+    let mut answers = vec![in heap; Answer::FILLER; LANES * RING_DEPTH]?;
     let mut words = zero_words(heap)?;
     let tables = Tables::new(heap)?;
     let mut machine = Machine::new(

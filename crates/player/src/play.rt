@@ -36,7 +36,7 @@ fn play_line<Q: LaneNet<Request>, R: LaneNet<Answer>, M: Memory>(
 }
 
 /// Plays a line, and adds the line that tells what it came to.
-fn turn<Q: LaneNet<Request>, R: LaneNet<Answer>, M: Memory>(
+fn play_and_tell<Q: LaneNet<Request>, R: LaneNet<Answer>, M: Memory>(
     machine: &mut Machine<Q, R, M, Fixed>,
     line: Result<Call, Refusal>,
     number: usize,
@@ -66,7 +66,7 @@ pub fn play<Q: LaneNet<Request>, R: LaneNet<Answer>, M: Memory>(
 {
     let mut told = OutputLine::new();
     for (number, line) in (1..).zip(Reader::new(input)) {
-        turn(machine, line, number, &mut told, out)?;
+        play_and_tell(machine, line, number, &mut told, out)?;
     }
     Ok(())
 }

@@ -78,8 +78,8 @@ leased b until a stamp = cond (waited_on b a) stamp (max stamp until)
 abbrev pub stamped : Line → ℕ → Line
 stamped l t = record { value = l.value; stamp = t; changed = l.changed }
 
-abbrev pub written : Line → ℕ → Line
-written l v = record { value = v; stamp = l.stamp; changed = true }
+abbrev pub with_word : Line → ℕ → Line
+with_word l v = record { value = v; stamp = l.stamp; changed = true }
 
 -- met says that the line was there before the load
 abbrev pub load_line : BankState → ℕ → ℕ → ℕ → ℕ → Bool → Line → Turn (Result Answer Fault)
@@ -93,7 +93,7 @@ load_line b clock until w a met l = record {
 abbrev pub write_line : BankState → ℕ → ℕ → ℕ → (ℕ → Answer) → Line → Turn (Result Answer Fault)
 write_line b clock a v give l = record {
   answer = Ok (give (live l.stamp clock));
-  bank = with_line b a (Some (written l v));
+  bank = with_line b a (Some (with_word l v));
   events = cond (runs l.stamp clock) (WriteMetRunning ∷ []) [];
 }
 

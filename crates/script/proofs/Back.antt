@@ -11,7 +11,7 @@ use Rattle.std.specs.List.{AllByRecursion}
 use Rattle.script.specs.declared.reader.TheConstants.{INPUT_BYTES}
 use Rattle.script.specs.Fields.{split, onto, bind, first, others}
 use Rattle.script.specs.Lines.{letter_of, start_of, call_of, parse_line, script}
-use Rattle.script.specs.Written.{Words, sign, letter, fields, spaced, written, lines, Back, AllBack}
+use Rattle.script.specs.Written.{FitsWords, sign, letter, fields, spaced, written, lines, Back, AllBack}
 use Rattle.script.proofs.Numbers.{Digits, test, model, number_decimal}
 use Rattle.script.proofs.Splits.{script_more, script_length}
 
@@ -58,7 +58,7 @@ without_sign b Strong h = (λ e. omega arith, tt)
 without_sign b Weak h = (λ e. omega arith, tt)
 
 -- neither a blank nor byte 10 stands in a field
-without_fields : (b : ℕ) (c : Call) → b < 48 → Words c → AllByRecursion (Without b) (fields c)
+without_fields : (b : ℕ) (c : Call) → b < 48 → FitsWords c → AllByRecursion (Without b) (fields c)
 without_fields b (Start n p) low h = (without_decimal b n low h, (without_sign b p low, tt))
 without_fields b (Load c w a) low h = (without_decimal b c low h.0, (without_decimal b w low h.1, (without_decimal b a low h.2, tt)))
 without_fields b (Store c w a v) low h =
@@ -79,7 +79,7 @@ read_start : (n : ℕ) (p : Protocol) → n < 2 ^ 32 → start_of (decimal n ∷
 read_start n Strong h = rw (number_decimal n h) refl
 read_start n Weak h = rw (number_decimal n h) refl
 
-read_fields : (c : Call) → Words c → read ((letter c ∷ []) ∷ fields c) ≡ Some c
+read_fields : (c : Call) → FitsWords c → read ((letter c ∷ []) ∷ fields c) ≡ Some c
 read_fields (Start n p) h = read_start n p h
 read_fields (Load c w a) h = rw (number_decimal c h.0, number_decimal w h.1, number_decimal a h.2) refl
 read_fields (Store c w a v) h = rw (number_decimal c h.0, number_decimal w h.1, number_decimal a h.2, number_decimal v h.3) refl
@@ -88,14 +88,14 @@ read_fields (Deliver c) h = rw (number_decimal c h) refl
 read_fields Tick h = refl
 
 -- a call that was written as a line is read back
-parse_written : (c : Call) → Words c → parse_line (written c) ≡ Some c
+parse_written : (c : Call) → FitsWords c → parse_line (written c) ≡ Some c
 parse_written c h =
     ap read (split_spaced (letter c ∷ []) (fields c) ((λ e. omega (arith, above c)), tt) (without_fields 32 c (lit< tt) h)) ∙ read_fields c h
 
-without_written : (c : Call) → Words c → Without 10 (written c)
+without_written : (c : Call) → FitsWords c → Without 10 (written c)
 without_written c h = (λ e. omega (arith, above c), without_spaced (fields c) (without_fields 10 c (lit< tt) h))
 
-read_lines : (cs : List Call) → AllByRecursion Words cs → script (lines cs) ≡ map (λ c. Some c) cs
+read_lines : (cs : List Call) → AllByRecursion FitsWords cs → script (lines cs) ≡ map (λ c. Some c) cs
 read_lines [] h = refl
 read_lines (c ∷ cs) h =
     script_more (lines (c ∷ cs)) (written c) (lines cs) (split_part 10 (written c) (lines cs) (without_written c h.0))

@@ -3,7 +3,7 @@ use Rattle.std.proofs.Common.{◌≡◌, ℕ, ◌+◌, ◌-◌, ◌*◌, Bool, t
 use Rattle.std.proofs.lemmas.Bool.{leb-true, eqb-true, eqb-false, ne_eqb, and_parts, cond-true, cond-false}
 use Rattle.std.specs.Bool.{then_some}
 use Rattle.std.specs.Option.{MatchOption, option_map}
-use Rattle.script.specs.Fields.{split, left, onto, first, others, number, digits, word, bind, leading_digits, after_digits}
+use Rattle.script.specs.Fields.{split, left, onto, first, others, number, digits, fits_word, bind, leading_digits, after_digits}
 use Rattle.script.proofs.Numbers.{number_none}
 use Rattle.script.proofs.Back.{Without, split_part, split_whole}
 
@@ -52,7 +52,7 @@ stuck n (x ∷ xs) b ys e k = stuck_at n x xs b ys _ refl e k (λ m h. stuck m x
 
 -- another byte follows them
 pub field_no_number : (xs : List ℕ) (b : ℕ) (ys : List ℕ) → after_digits xs ≡ b ∷ ys → (b ≡ 32 → ⊥) → number (first (split 32 xs)) ≡ None
-field_no_number xs b ys e k = number_none (first (split 32 xs)) (ap (λ o. bind o word) (stuck 0 xs b ys e k))
+field_no_number xs b ys e k = number_none (first (split 32 xs)) (ap (λ o. bind o fits_word) (stuck 0 xs b ys e k))
 
 none_at : (xs : List ℕ) (b : ℕ) (ys : List ℕ) (t : Bool) → eqb b 32 ≡ t → after_digits xs ≡ b ∷ ys → number (leading_digits xs) ≡ None → number (first (split 32 xs)) ≡ None
 none_at xs b ys true t e h = ap (λ ps. number (first ps)) (field_part xs ys (e ∙ ap (λ c. c ∷ ys) (eqb-true b 32 t))) ∙ h

@@ -27,12 +27,12 @@ digits n [] = Some n
 digits n (b ∷ bs) = cond (nat_le 48 b && nat_le b 57) (digits (n * 10 + (b - 48)) bs) None
 
 -- the number, where it is below 2 ^ 32
-abbrev pub word : ℕ → Option ℕ
-word n = cond (nat_lt n 4294967296) (Some n) None
+abbrev pub fits_word : ℕ → Option ℕ
+fits_word n = cond (nat_lt n 4294967296) (Some n) None
 
 -- the number that a field of 1 to 10 digits writes
 abbrev pub number : List ℕ → Option ℕ
-number f = cond (nat_lt 0 (length f) && nat_le (length f) 10) (bind (digits 0 f) word) None
+number f = cond (nat_lt 0 (length f) && nat_le (length f) 10) (bind (digits 0 f) fits_word) None
 
 -- the digits at the front of a list of bytes
 abbrev pub leading_digits : List ℕ → List ℕ

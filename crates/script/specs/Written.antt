@@ -9,13 +9,13 @@ use Rattle.script.specs.declared.reader.TheConstants.{INPUT_BYTES}
 use Rattle.script.specs.Lines.{script}
 
 -- the numbers of a call fit a word
-abbrev pub Words : Call → Type 0
-Words (Start cores p) = cores < 2 ^ 32
-Words (Load core wave address) = (core < 2 ^ 32) × (wave < 2 ^ 32) × (address < 2 ^ 32)
-Words (Store core wave address value) = (core < 2 ^ 32) × (wave < 2 ^ 32) × (address < 2 ^ 32) × (value < 2 ^ 32)
-Words (Serve core) = core < 2 ^ 32
-Words (Deliver core) = core < 2 ^ 32
-Words Tick = Unit {0}
+abbrev pub FitsWords : Call → Type 0
+FitsWords (Start cores p) = cores < 2 ^ 32
+FitsWords (Load core wave address) = (core < 2 ^ 32) × (wave < 2 ^ 32) × (address < 2 ^ 32)
+FitsWords (Store core wave address value) = (core < 2 ^ 32) × (wave < 2 ^ 32) × (address < 2 ^ 32) × (value < 2 ^ 32)
+FitsWords (Serve core) = core < 2 ^ 32
+FitsWords (Deliver core) = core < 2 ^ 32
+FitsWords Tick = Unit {0}
 
 abbrev pub sign : Protocol → List ℕ
 sign Strong = codes "S"
@@ -55,8 +55,8 @@ lines (c ∷ cs) = written c ++ (10 ∷ lines cs)
 
 -- a line that writes a call is read as that call
 abbrev pub Back : List ℕ → Option Call → Type 0
-Back line r = (c : Call) → Words c → line ≡ written c → r ≡ Some c
+Back line r = (c : Call) → FitsWords c → line ≡ written c → r ≡ Some c
 
 -- an input that writes calls has just those lines, where it is not longer than what is read of it
 abbrev pub AllBack : List ℕ → List ℕ → Type 0
-AllBack input read = (cs : List Call) → AllByRecursion Words cs → input ≡ lines cs → length input ≤ INPUT_BYTES → script read ≡ map (λ c. Some c) cs
+AllBack input read = (cs : List Call) → AllByRecursion FitsWords cs → input ≡ lines cs → length input ≤ INPUT_BYTES → script read ≡ map (λ c. Some c) cs

@@ -11,7 +11,7 @@ use Rattle.player.proofs.play.play.Goals as goal
 
 pub loop-number-preserved : goal.loop-number-preserved
 loop-number-preserved g c =
-    let t = c.in_ok-turn.ensures in
+    let t = c.in_ok-play_and_tell.ensures in
     let n = length c.loop-number.yielded in
     let here = zip_second c.loop-number.number-iterator in
     let next = zip_second c.next.new.self in
@@ -31,19 +31,19 @@ loop-number-preserved g c =
       (one_after s life n _ _ _ (c.loop-number.invariant.5 ∙ line)).1,
     )
 
-pub returns-in_err-turn-clause-begun : goal.returns-in_err-turn-clause-begun
-returns-in_err-turn-clause-begun g c =
+pub returns-in_err-play_and_tell-clause-begun : goal.returns-in_err-play_and_tell-clause-begun
+returns-in_err-play_and_tell-clause-begun g c =
     let n = length c.loop-number.yielded in
     let here = zip_second c.loop-number.number-iterator in
     let next = zip_second c.next.new.self in
     let line : script here ≡ result_ok c.in-Some.line ∷ script next = next_line here next c.in-Some.line c.in-Some.ensures.steps.1 in
     let begun : Begun (view g.Q.LaneNet g.R.LaneNet g.M.Memory c.args.machine.now) c.args.machine.now.policy.lifetime (script (take INPUT_BYTES c.args.input.now))
-    (view g.Q.LaneNet g.R.LaneNet g.M.Memory c.turn.new.machine) c.args.out.now.items c.turn.new.out.items = record {
-      written = n;
+    (view g.Q.LaneNet g.R.LaneNet g.M.Memory c.play_and_tell.new.machine) c.args.out.now.items c.play_and_tell.new.out.items = record {
+      count = n;
       fewer = fewer_played n _ _ _ (c.loop-number.invariant.5 ∙ line);
-      text = c.in_err-turn.ensures.bytes ∙ c.loop-number.invariant.3;
+      text = c.in_err-play_and_tell.ensures.bytes ∙ c.loop-number.invariant.3;
       state = more_after _ _ _ _ _ n _ (result_ok c.in-Some.line) (script next) (c.loop-number.invariant.5 ∙ line) c.loop-number.invariant.4
-          c.loop-number.invariant.2 c.turn.ensures.after;
+          c.loop-number.invariant.2 c.play_and_tell.ensures.after;
     } in
     on_err _ c.from_residual.result begun
 

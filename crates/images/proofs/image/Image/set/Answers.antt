@@ -19,4 +19,4 @@ returns c =
       keeps = done.keeps;
       checks = done.checks;
     } in
-    record { cells = put_cell xs ys a v n e r; same = search rules; bytes = word_alone xs ys a v n e r; kept = search rules }
+    record { cells = put_cell xs ys a v n e r; same = search rules; bytes = word_alone xs ys a v n e r; lent = search rules }
