@@ -6,6 +6,7 @@ use lanes::ring::Ring;
 use lifetimes::learner::Learner;
 use machine::machine::{Machine, Parts};
 use machine::tables::Tables;
+use memories::memory::Memory;
 use memories::words::Words;
 use messages::answer::Answer;
 use messages::request::Request;
@@ -40,6 +41,9 @@ fn main(rt: HostRuntime) -> io::Result<()> {
     ] {
         println!(rt; "{}", machine.make(call))?;
     }
-    println!(rt; "stamps are read at tick {}", machine.clock())?;
+    let Parts { memory, .. } = machine.into_parts();
+    if let Ok(word) = memory.read(address) {
+        println!(rt; "word {address} is {word}")?;
+    }
     Ok(())
 }

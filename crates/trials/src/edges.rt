@@ -1,4 +1,4 @@
-//! Edges of the machine: of stamps, bounds, tables and the clock.
+//! Edges of the machine: of stamps, bounds and tables.
 use crate::scenes::{
     DELIVER_0, LOAD_5, NOWHERE, SERVE_0, SERVE_1, STORE_5, board, load, loaded, play, start, ticks,
 };
