@@ -8,7 +8,7 @@ abbrev pub bank_state : BankTables → BankState
 bank_state b = record { lines = vec_items b.lines; kept = vec_items b.kept; waiting = b.waiting }
 
 -- the bounds of the bank's tables, which every call keeps, and what is counted beside them
-pub record InBounds (b : BankTables) : Type 0 where
+pub record BankInBounds (b : BankTables) : Type 0 where
   pub lines : vec_len b.lines ≡ WORDS
   pub line_count : b.line_count ≡ count_by is_some b.lines.items
   pub line_room : b.line_count ≤ LINES

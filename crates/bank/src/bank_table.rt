@@ -26,11 +26,11 @@ impl Model for Bank {
 
     ghost Value = { BankState };
 
-    ghost use Rattle.bank.specs.BankView.{InBounds, bank_state};
+    ghost use Rattle.bank.specs.BankView.{BankInBounds, bank_state};
 
     ghost view = { bank_state };
 
-    ghost invariant = { InBounds };
+    ghost invariant = { BankInBounds };
 }
 
 /// A stamp that runs, else 0: ticks begin at 1, so the rules and the answers have 0 for none.

@@ -16,7 +16,7 @@ core_state c = record {
 }
 
 -- the bounds of a core's tables, which every call keeps
-pub record InBounds (c : CoreTables) : Type 0 where
+pub record CoreInBounds (c : CoreTables) : Type 0 where
   pub reserved : PENDING_REQUESTS ≤ deque_capacity c.pending
   pub pending : deque_len c.pending ≤ PENDING_REQUESTS
   pub copies : length c.copies ≡ COPY_PLACES

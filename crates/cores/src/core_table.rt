@@ -43,11 +43,11 @@ impl Model for Core {
 
     ghost Value = { CoreState };
 
-    ghost use Rattle.cores.specs.CoreView.{InBounds, core_state};
+    ghost use Rattle.cores.specs.CoreView.{CoreInBounds, core_state};
 
     ghost view = { core_state };
 
-    ghost invariant = { InBounds };
+    ghost invariant = { CoreInBounds };
 }
 
 /// The value of a copy of the address that runs.

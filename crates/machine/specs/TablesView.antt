@@ -13,7 +13,7 @@ tables_state t = record {
 }
 
 -- the bounds of the tables, which every call keeps: ticks begin at 1, and the cores and those in reserve are as many as lanes
-pub record InBounds (t : MachineTables) : Type 0 where
+pub record TablesInBounds (t : MachineTables) : Type 0 where
   pub ticks : 1 ≤ t.clock
   pub reserved : LANES ≤ vec_capacity t.cores
   pub cores : vec_len t.cores + vec_len t.spare ≡ LANES

@@ -1,13 +1,7 @@
 //! The machine: its parts, and its tables.
 ghost use Rattle.std.specs.Prelude.{◌≡◌};
-ghost use Rattle.machine.specs.View.{memory_state, net_state, view};
 
 use crate::tables::Tables;
-use lanes::net::LaneNet;
-use lifetimes::policy::LifetimePolicy;
-use memories::memory::Memory;
-use messages::answer::Answer;
-use messages::request::Request;
 
 /// What a machine is made of, and gives back: a net for requests, a net for answers, a memory, and a
 /// lifetime policy.
@@ -75,33 +69,31 @@ impl<Q, R, M, P> Machine<Q, R, M, P> {
             policy,
         }
     }
-}
 
-impl<Q: LaneNet<Request>, R: LaneNet<Answer>, M: Memory, P: LifetimePolicy> Machine<Q, R, M, P> {
     /// The present tick; 1 before a start.
     pub fn clock(&self) -> u32
-        ensures { result ≡ (view Q.LaneNet R.LaneNet M.Memory self.now).tables.clock }
+        ensures { result ≡ self.now.tables.clock }
     {
         self.tables.clock.tick()
     }
 
     /// The net of requests, with what lies in its lanes.
     pub fn requests(&self) -> &Q
-        ensures { net_state Q.LaneNet result.now ≡ (view Q.LaneNet R.LaneNet M.Memory self.now).requests }
+        ensures { result.now ≡ self.now.requests }
     {
         &self.requests
     }
 
     /// The net of answers, with what lies in its lanes.
     pub fn answers(&self) -> &R
-        ensures { net_state R.LaneNet result.now ≡ (view Q.LaneNet R.LaneNet M.Memory self.now).answers }
+        ensures { result.now ≡ self.now.answers }
     {
         &self.answers
     }
 
     /// The memory, whose words are those of the start and what evictions wrote.
     pub fn memory(&self) -> &M
-        ensures { memory_state M.Memory result.now ≡ (view Q.LaneNet R.LaneNet M.Memory self.now).memory }
+        ensures { result.now ≡ self.now.memory }
     {
         &self.memory
     }

@@ -44,11 +44,11 @@ impl Model for Tables {
 
     ghost Value = { TablesState };
 
-    ghost use Rattle.machine.specs.TablesView.{InBounds, tables_state};
+    ghost use Rattle.machine.specs.TablesView.{TablesInBounds, tables_state};
 
     ghost view = { tables_state };
 
-    ghost invariant = { InBounds };
+    ghost invariant = { TablesInBounds };
 }
 
 /// As many cores as there are lanes, with all their room reserved.

@@ -1,7 +1,7 @@
 //! A script played on a machine with a fixed lifetime.
 ghost use Rattle.std.specs.Prelude.{◌≡◌, ℕ, [], ◌++◌, take, is_ok, if◌then◌else◌, OnOk, OnErr};
 ghost use Rattle.std.specs.Result.{result_ok};
-ghost use Rattle.machine.specs.View.{view};
+ghost use Rattle.machine.specs.View.{SameLoans, view};
 ghost use Rattle.script.specs.declared.reader.TheConstants.{INPUT_BYTES};
 ghost use Rattle.script.specs.OutputLines.{output_line};
 ghost use Rattle.script.specs.Lines.{script};
@@ -28,6 +28,7 @@ fn play_line<Q: LaneNet<Request>, R: LaneNet<Answer>, M: Memory>(
     ensures answer { result ≡ read_line_outcome (view Q.LaneNet R.LaneNet M.Memory machine.old) machine.old.policy.lifetime line }
     ensures after { view Q.LaneNet R.LaneNet M.Memory machine.new ≡ line_after (view Q.LaneNet R.LaneNet M.Memory machine.old) machine.old.policy.lifetime (result_ok line) }
     ensures same { machine.new.policy.lifetime ≡ machine.old.policy.lifetime }
+    ensures lent { SameLoans Q.LaneNet R.LaneNet M.Memory machine.old machine.new }
 {
     match line {
         Ok(call) => machine.make(call),
@@ -40,16 +41,17 @@ fn play_and_tell<Q: LaneNet<Request>, R: LaneNet<Answer>, M: Memory>(
     machine: &mut Machine<Q, R, M, Fixed>,
     line: Result<Call, Refusal>,
     number: usize,
-    told: &mut OutputLine,
+    line_out: &mut OutputLine,
     out: &mut Vec<u8>,
 ) -> Result<(), AllocError>
     ensures bytes { out.new.items ≡ (if is_ok result then out.old.items ++ output_line number (read_line_outcome (view Q.LaneNet R.LaneNet M.Memory machine.old) machine.old.policy.lifetime line) else out.old.items) }
     ensures after { view Q.LaneNet R.LaneNet M.Memory machine.new ≡ line_after (view Q.LaneNet R.LaneNet M.Memory machine.old) machine.old.policy.lifetime (result_ok line) }
     ensures same { machine.new.policy.lifetime ≡ machine.old.policy.lifetime }
+    ensures lent { SameLoans Q.LaneNet R.LaneNet M.Memory machine.old machine.new }
 {
     let outcome = play_line(machine, line);
-    told.set(number, outcome);
-    out.extend_from_slice(told.as_bytes())
+    line_out.set(number, outcome);
+    out.extend_from_slice(line_out.as_bytes())
 }
 
 /// Plays a script from its first line on, and adds a line for each of its lines. Where memory is short
@@ -63,10 +65,11 @@ pub fn play<Q: LaneNet<Request>, R: LaneNet<Answer>, M: Memory>(
     ensures after { OnOk result (view Q.LaneNet R.LaneNet M.Memory machine.new ≡ lines_after (view Q.LaneNet R.LaneNet M.Memory machine.old) machine.old.policy.lifetime (script (take INPUT_BYTES input.now))) }
     ensures begun { OnErr result (Begun (view Q.LaneNet R.LaneNet M.Memory machine.old) machine.old.policy.lifetime (script (take INPUT_BYTES input.now)) (view Q.LaneNet R.LaneNet M.Memory machine.new) (out.old.items) (out.new.items)) }
     ensures same { machine.new.policy.lifetime ≡ machine.old.policy.lifetime }
+    ensures lent { SameLoans Q.LaneNet R.LaneNet M.Memory machine.old machine.new }
 {
-    let mut told = OutputLine::new();
+    let mut line_out = OutputLine::new();
     for (number, line) in (1..).zip(Reader::new(input)) {
-        play_and_tell(machine, line, number, &mut told, out)?;
+        play_and_tell(machine, line, number, &mut line_out, out)?;
     }
     Ok(())
 }

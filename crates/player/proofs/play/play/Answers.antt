@@ -29,6 +29,11 @@ loop-number-preserved g c =
           c.loop-number.invariant.4 c.loop-number.invariant.2 c.loop-number.invariant.3 (rw read at t.bytes),
       more_after _ _ _ _ _ n _ _ _ (c.loop-number.invariant.5 ∙ line) c.loop-number.invariant.4 c.loop-number.invariant.2 t.after,
       (one_after s life n _ _ _ (c.loop-number.invariant.5 ∙ line)).1,
+      record {
+        requests = t.lent.requests ∙ c.loop-number.invariant.6.requests;
+        answers = t.lent.answers ∙ c.loop-number.invariant.6.answers;
+        memory = t.lent.memory ∙ c.loop-number.invariant.6.memory;
+      },
     )
 
 pub returns-in_err-play_and_tell-clause-begun : goal.returns-in_err-play_and_tell-clause-begun
@@ -61,4 +66,5 @@ returns g c =
       after = rw whole at c.loop-number.invariant.4;
       begun = tt;
       same = c.loop-number.invariant.2;
+      lent = c.loop-number.invariant.6;
     }
