@@ -8,11 +8,13 @@ use Rattle.std.proofs.lemmas.Fmt.{digits_decimal}
 use Rattle.std.proofs.lemmas.List.{take_all}
 use Rattle.std.proofs.lemmas.Bool.{eq-eqb, ne_eqb}
 use Rattle.std.specs.List.{AllByRecursion}
+use Rattle.std.specs.Str.Parse.{AllDigits}
+use Rattle.std.proofs.lemmas.Str.Parse.{tells_digits}
 use Rattle.script.specs.declared.reader.TheConstants.{INPUT_BYTES}
 use Rattle.script.specs.Fields.{split, onto, bind, first, others}
 use Rattle.script.specs.Lines.{letter_of, start_of, call_of, parse_line, script}
 use Rattle.script.specs.Written.{FitsWords, sign, letter, fields, spaced, written, lines, Back, AllBack}
-use Rattle.script.proofs.Numbers.{Digits, test, model, number_decimal}
+use Rattle.script.proofs.Numbers.{model, number_decimal}
 use Rattle.script.proofs.Splits.{script_more, script_length}
 
 -- byte b does not stand in the list
@@ -23,10 +25,10 @@ without_append : (b : ℕ) (xs ys : List ℕ) → Without b xs → Without b ys 
 without_append b [] ys h k = k
 without_append b (x ∷ xs) ys h k = (h.0, without_append b xs ys h.1 k)
 
-without_digits : (b : ℕ) (xs : List ℕ) → b < 48 → Digits xs → Without b xs
+without_digits : (b : ℕ) (xs : List ℕ) → b < 48 → AllDigits 10 xs → Without b xs
 without_digits b [] low h = tt
 without_digits b (x ∷ xs) low h =
-    let parts = test.parts x xs h in
+    let parts = tells_digits.parts x xs h in
     (λ e. omega (arith, parts.0.0), without_digits b xs low parts.1)
 
 without_decimal : (b n : ℕ) → b < 48 → n < 2 ^ 32 → Without b (decimal n)

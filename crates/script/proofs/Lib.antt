@@ -1,4 +1,3 @@
 pub mod Back
-pub mod Lengths
 pub mod Numbers
 pub mod Splits

@@ -1,36 +1,20 @@
 use Rattle.std.proofs.Common.{◌≡◌, ℕ, suc, ◌+◌, ◌-◌, ◌*◌, ◌^◌, ◌<◌, ◌≤◌, true, false, cond, ◌&&◌, leb, eqb, List, [], ◌∷◌, length, Some, None, Bool, Option, Bor, decimal, refl, ap, ◌∙◌, rules, arith, lit<}
-use Rattle.std.specs.Char.{is_ascii_digit}
-use Rattle.std.specs.List.{list_all}
-use Rattle.std.specs.Str.{IsAscii}
+use Rattle.std.specs.Str.Parse.{AllDigits}
 use Rattle.std.specs.Bool.{then_some}
 use Rattle.std.specs.Option.{MatchOption, option_map}
 use Rattle.std.proofs.Math.Nat.{add-zero}
 use Rattle.std.proofs.lemmas.Bool.{cond_both, le-leb, lt-ltb, le-ltb, ne_eqb, and_from, cond-true, cond-false}
 use Rattle.std.proofs.lemmas.Fmt.{decimal_nonempty, length-decimal-le, digits_decimal, digits_value-decimal}
-use Rattle.std.proofs.lemmas.Str.Ascii.{IsAscii-nil, IsAscii-cons}
-use Rattle.std.proofs.lemmas.Str.Parse.{IsDigitsTest, IsNumeralModel, numerals_by_fold}
+use Rattle.std.proofs.lemmas.Str.Parse.{IsNumeralModel, numerals_by_fold, tells_digits}
 use Rattle.script.specs.Fields.{is_digit, is_digit_count, fits_word, first, left, split, onto, number, number_after}
-
--- each byte is a digit
-abbrev pub Digits : List ℕ → Type 0
-Digits f = list_all is_ascii_digit f ≡ true
 
 -- the number that digits write after n
 abbrev read : ℕ → List ℕ → ℕ
 read n [] = n
 read n (b ∷ bs) = read (n * 10 + (b - 48)) bs
 
-pub test : IsDigitsTest Digits
-test = search rules
-
-pub model : IsNumeralModel Digits (read 0)
-model = numerals_by_fold Digits test read (search rules)
-
-pub digits_ascii : (f : List ℕ) → Digits f → IsAscii f
-digits_ascii [] h = IsAscii-nil
-digits_ascii (b ∷ bs) h =
-    let parts = test.parts b bs h in
-    IsAscii-cons b bs (omega (arith, parts.0.1)) (digits_ascii bs parts.1)
+pub model : IsNumeralModel (AllDigits 10) (read 0)
+model = numerals_by_fold (AllDigits 10) tells_digits read (search rules)
 
 -- a digit more
 number_more : (k n b : ℕ) (f : List ℕ) → 48 ≤ b → b ≤ 57 → number_after k n (b ∷ f) ≡ number_after (suc k) (n * 10 + (b - 48)) f
@@ -63,10 +47,10 @@ found true r n fs rest e h = (e, h refl)
 found false r n fs rest e h = e
 
 -- a field of digits
-number_read : (k n : ℕ) (f : List ℕ) → Digits f → number_after k n f ≡ cond (is_digit_count (k + length f)) (fits_word (read n f)) None
+number_read : (k n : ℕ) (f : List ℕ) → AllDigits 10 f → number_after k n f ≡ cond (is_digit_count (k + length f)) (fits_word (read n f)) None
 number_read k n [] h = rw (add-zero k) refl
 number_read k n (b ∷ bs) h =
-    let parts = test.parts b bs h in
+    let parts = tells_digits.parts b bs h in
     let shift : suc k + length bs ≡ k + suc (length bs) = omega arith in
     number_more k n b bs parts.0.0 (omega (arith, parts.0.1)) ∙ number_read (suc k) (n * 10 + (b - 48)) bs parts.1
     ∙ ap (λ i. cond (is_digit_count i) (fits_word (read n (b ∷ bs))) None) shift

@@ -45,16 +45,12 @@ split_at b xs (Some i) None place (inr past, within) = absurd (omega (arith, pas
 split_at b xs (Some i) (Some ys) place part =
     split_first b xs i place ∙ ap (λ zs. take i xs ∷ split b zs) (sym (rw (← add-one i) (part.0.2 ∙ take_rest xs (i + 1))))
 
-onto_cons : (x : ℕ) (ps : List (List ℕ)) → onto x ps ≡ first (onto x ps) ∷ others (onto x ps)
-onto_cons x [] = refl
-onto_cons x (p ∷ ps) = refl
-
 -- there is a first part
 split_cons : (b : ℕ) (xs : List ℕ) → split b xs ≡ first (split b xs) ∷ others (split b xs)
 split_cons b [] = refl
 split_cons b (x ∷ xs) =
     elim (eqb x b) as (λ t. let ps : List (List ℕ) = cond t ([] ∷ split b xs) (onto x (split b xs)) in ps ≡ first ps ∷ others ps)
-    [ true ↦ refl | false ↦ onto_cons x (split b xs) ]
+    [ true ↦ refl | false ↦ refl ]
 
 end_split : {A : Type 0} (y : A) (b : ℕ) (xs : List ℕ) → end y (split b xs) ≡ None
 end_split y b xs = ap (end y) (split_cons b xs)
