@@ -6,20 +6,15 @@ use Rattle.calls.specs.declared.call.Protocol.{Protocol}
 use Rattle.calls.specs.declared.call.Protocol.TheVariants.{Strong, Weak}
 use Rattle.std.proofs.lemmas.Fmt.{digits_decimal}
 use Rattle.std.proofs.lemmas.List.{take_all}
-use Rattle.std.proofs.lemmas.Bool.{eq-eqb, ne_eqb}
 use Rattle.std.specs.List.{AllByRecursion}
 use Rattle.std.specs.Str.Parse.{AllDigits}
 use Rattle.std.proofs.lemmas.Str.Parse.{tells_digits}
 use Rattle.script.specs.declared.reader.TheConstants.{INPUT_BYTES}
-use Rattle.script.specs.Fields.{split, onto, bind, first, others}
+use Rattle.script.specs.Fields.{split, bind, first, others}
 use Rattle.script.specs.Lines.{letter_of, start_of, call_of, parse_line, script}
 use Rattle.script.specs.Written.{FitsWords, sign, letter, fields, spaced, written, lines, Back, AllBack}
 use Rattle.script.proofs.Numbers.{model, number_decimal}
-use Rattle.script.proofs.Splits.{script_more, script_length}
-
--- byte b does not stand in the list
-abbrev pub Without : ℕ → List ℕ → Type 0
-Without b xs = AllByRecursion (λ x. x ≡ b → ⊥) xs
+use Rattle.script.proofs.Splits.{Without, split_part, split_whole, script_more, script_length}
 
 without_append : (b : ℕ) (xs ys : List ℕ) → Without b xs → Without b ys → Without b (xs ++ ys)
 without_append b [] ys h k = k
@@ -33,15 +28,6 @@ without_digits b (x ∷ xs) low h =
 
 without_decimal : (b n : ℕ) → b < 48 → n < 2 ^ 32 → Without b (decimal n)
 without_decimal b n low h = without_digits b (decimal n) low (digits_decimal model n (omega arith))
-
--- a part before byte b
-pub split_part : (b : ℕ) (f ys : List ℕ) → Without b f → split b (f ++ (b ∷ ys)) ≡ f ∷ split b ys
-split_part b [] ys h = rw (eq-eqb b b refl) refl
-split_part b (x ∷ f) ys h = rw (ne_eqb x b h.0) (ap (onto x) (split_part b f ys h.1))
-
-pub split_whole : (b : ℕ) (f : List ℕ) → Without b f → split b f ≡ f ∷ []
-split_whole b [] h = refl
-split_whole b (x ∷ f) h = rw (ne_eqb x b h.0) (ap (onto x) (split_whole b f h.1))
 
 split_spaced : (f : List ℕ) (fs : List (List ℕ)) → Without 32 f → AllByRecursion (Without 32) fs → split 32 (f ++ spaced fs) ≡ f ∷ fs
 split_spaced f [] h k = rw (append-nil f) (split_whole 32 f h)
