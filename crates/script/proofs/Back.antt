@@ -38,24 +38,16 @@ without_spaced (f ∷ fs) h = (λ e. omega arith, without_append 10 f (spaced fs
 abbrev read : List (List ℕ) → Option Call
 read ps = bind (letter_of (first ps)) (λ l. call_of l (others ps))
 
--- neither a blank nor byte 10 stands in a field
-without_fields : (b : ℕ) (c : Call) → b < 48 → FitsWords c → AllByRecursion (Without b) (fields c)
-without_fields b (Start n Strong) low h = (without_decimal b n low h, (((λ e. omega arith), tt), tt))
-without_fields b (Start n Weak) low h = (without_decimal b n low h, (((λ e. omega arith), tt), tt))
-without_fields b (Load c w a) low h = (without_decimal b c low h.0, (without_decimal b w low h.1, (without_decimal b a low h.2, tt)))
+-- neither a blank nor byte 10 stands in a field, nor is one the letter
+without_fields : (b : ℕ) (c : Call) → b < 48 → FitsWords c → (letter c ≡ b → ⊥) × AllByRecursion (Without b) (fields c)
+without_fields b (Start n Strong) low h = (λ e. omega arith, (without_decimal b n low h, (((λ e. omega arith), tt), tt)))
+without_fields b (Start n Weak) low h = (λ e. omega arith, (without_decimal b n low h, (((λ e. omega arith), tt), tt)))
+without_fields b (Load c w a) low h = (λ e. omega arith, (without_decimal b c low h.0, (without_decimal b w low h.1, (without_decimal b a low h.2, tt))))
 without_fields b (Store c w a v) low h =
-    (without_decimal b c low h.0, (without_decimal b w low h.1, (without_decimal b a low h.2, (without_decimal b v low h.3, tt))))
-without_fields b (Serve c) low h = (without_decimal b c low h, tt)
-without_fields b (Deliver c) low h = (without_decimal b c low h, tt)
-without_fields b Tick low h = tt
-
-above : (c : Call) → 48 < letter c
-above (Start n p) = lit< tt
-above (Load c w a) = lit< tt
-above (Store c w a v) = lit< tt
-above (Serve c) = lit< tt
-above (Deliver c) = lit< tt
-above Tick = lit< tt
+    (λ e. omega arith, (without_decimal b c low h.0, (without_decimal b w low h.1, (without_decimal b a low h.2, (without_decimal b v low h.3, tt)))))
+without_fields b (Serve c) low h = (λ e. omega arith, (without_decimal b c low h, tt))
+without_fields b (Deliver c) low h = (λ e. omega arith, (without_decimal b c low h, tt))
+without_fields b Tick low h = (λ e. omega arith, tt)
 
 read_fields : (c : Call) → FitsWords c → read ((letter c ∷ []) ∷ fields c) ≡ Some c
 read_fields (Start n Strong) h = rw (number_decimal n h) refl
@@ -69,10 +61,11 @@ read_fields Tick h = refl
 -- a call that was written as a line is read back
 parse_written : (c : Call) → FitsWords c → parse_line (written c) ≡ Some c
 parse_written c h =
-    ap read (split_spaced (letter c ∷ []) (fields c) ((λ e. omega (arith, above c)), tt) (without_fields 32 c (lit< tt) h)) ∙ read_fields c h
+    let free = without_fields 32 c (lit< tt) h in
+    ap read (split_spaced (letter c ∷ []) (fields c) (free.0, tt) free.1) ∙ read_fields c h
 
 without_written : (c : Call) → FitsWords c → Without 10 (written c)
-without_written c h = (λ e. omega (arith, above c), without_spaced (fields c) (without_fields 10 c (lit< tt) h))
+without_written c h = let free = without_fields 10 c (lit< tt) h in (free.0, without_spaced (fields c) free.1)
 
 pub read_lines : (cs : List Call) → AllByRecursion FitsWords cs → script (lines cs) ≡ map (λ c. Some c) cs
 read_lines [] h = refl
