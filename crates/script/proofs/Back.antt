@@ -1,45 +1,30 @@
 -- A script that was written from calls is read back.
-use Rattle.std.proofs.Common.{◌≡◌, ℕ, ◌^◌, ◌<◌, ◌≤◌, List, [], ◌∷◌, ◌++◌, map, length, take, Some, decimal, Option, refl, ap, ◌∙◌, append-nil, arith, lit<, length-take}
+use Rattle.std.proofs.Common.{◌≡◌, ℕ, ◌^◌, ◌<◌, List, [], ◌∷◌, ◌++◌, map, Some, decimal, Option, refl, ap, ◌∙◌, append-nil, arith, lit<}
 use Rattle.calls.specs.declared.call.Call.{Call}
 use Rattle.calls.specs.declared.call.Call.TheVariants.{Start, Load, Store, Serve, Deliver, Tick}
-use Rattle.calls.specs.declared.call.Protocol.{Protocol}
 use Rattle.calls.specs.declared.call.Protocol.TheVariants.{Strong, Weak}
 use Rattle.std.proofs.lemmas.Fmt.{digits_decimal}
-use Rattle.std.proofs.lemmas.List.{take_all}
-use Rattle.std.proofs.lemmas.Bool.{eq-eqb, ne_eqb}
 use Rattle.std.specs.List.{AllByRecursion}
-use Rattle.script.specs.declared.reader.TheConstants.{INPUT_BYTES}
-use Rattle.script.specs.Fields.{split, onto, bind, first, others}
-use Rattle.script.specs.Lines.{letter_of, start_of, call_of, parse_line, script}
-use Rattle.script.specs.Written.{FitsWords, sign, letter, fields, spaced, written, lines, Back, AllBack}
-use Rattle.script.proofs.Numbers.{Digits, test, model, number_decimal}
-use Rattle.script.proofs.Splits.{script_more, script_length}
-
--- byte b does not stand in the list
-abbrev pub Without : ℕ → List ℕ → Type 0
-Without b xs = AllByRecursion (λ x. x ≡ b → ⊥) xs
+use Rattle.std.specs.Str.Parse.{AllDigits}
+use Rattle.std.proofs.lemmas.Str.Parse.{tells_digits}
+use Rattle.script.specs.Fields.{split, bind, first, others}
+use Rattle.script.specs.Lines.{letter_of, call_of, parse_line, script}
+use Rattle.script.specs.Written.{FitsWords, letter, fields, spaced, written, lines, Back}
+use Rattle.script.proofs.Numbers.{model, number_decimal}
+use Rattle.script.proofs.Splits.{Without, split_part, split_whole, script_more}
 
 without_append : (b : ℕ) (xs ys : List ℕ) → Without b xs → Without b ys → Without b (xs ++ ys)
 without_append b [] ys h k = k
 without_append b (x ∷ xs) ys h k = (h.0, without_append b xs ys h.1 k)
 
-without_digits : (b : ℕ) (xs : List ℕ) → b < 48 → Digits xs → Without b xs
+without_digits : (b : ℕ) (xs : List ℕ) → b < 48 → AllDigits 10 xs → Without b xs
 without_digits b [] low h = tt
 without_digits b (x ∷ xs) low h =
-    let parts = test.parts x xs h in
+    let parts = tells_digits.parts x xs h in
     (λ e. omega (arith, parts.0.0), without_digits b xs low parts.1)
 
 without_decimal : (b n : ℕ) → b < 48 → n < 2 ^ 32 → Without b (decimal n)
 without_decimal b n low h = without_digits b (decimal n) low (digits_decimal model n (omega arith))
-
--- a part before byte b
-pub split_part : (b : ℕ) (f ys : List ℕ) → Without b f → split b (f ++ (b ∷ ys)) ≡ f ∷ split b ys
-split_part b [] ys h = rw (eq-eqb b b refl) refl
-split_part b (x ∷ f) ys h = rw (ne_eqb x b h.0) (ap (onto x) (split_part b f ys h.1))
-
-pub split_whole : (b : ℕ) (f : List ℕ) → Without b f → split b f ≡ f ∷ []
-split_whole b [] h = refl
-split_whole b (x ∷ f) h = rw (ne_eqb x b h.0) (ap (onto x) (split_whole b f h.1))
 
 split_spaced : (f : List ℕ) (fs : List (List ℕ)) → Without 32 f → AllByRecursion (Without 32) fs → split 32 (f ++ spaced fs) ≡ f ∷ fs
 split_spaced f [] h k = rw (append-nil f) (split_whole 32 f h)
@@ -53,34 +38,20 @@ without_spaced (f ∷ fs) h = (λ e. omega arith, without_append 10 f (spaced fs
 abbrev read : List (List ℕ) → Option Call
 read ps = bind (letter_of (first ps)) (λ l. call_of l (others ps))
 
-without_sign : (b : ℕ) (p : Protocol) → b < 48 → Without b (sign p)
-without_sign b Strong h = (λ e. omega arith, tt)
-without_sign b Weak h = (λ e. omega arith, tt)
-
--- neither a blank nor byte 10 stands in a field
-without_fields : (b : ℕ) (c : Call) → b < 48 → FitsWords c → AllByRecursion (Without b) (fields c)
-without_fields b (Start n p) low h = (without_decimal b n low h, (without_sign b p low, tt))
-without_fields b (Load c w a) low h = (without_decimal b c low h.0, (without_decimal b w low h.1, (without_decimal b a low h.2, tt)))
+-- neither a blank nor byte 10 stands in a field, nor is one the letter
+without_fields : (b : ℕ) (c : Call) → b < 48 → FitsWords c → (letter c ≡ b → ⊥) × AllByRecursion (Without b) (fields c)
+without_fields b (Start n Strong) low h = (λ e. omega arith, (without_decimal b n low h, (((λ e. omega arith), tt), tt)))
+without_fields b (Start n Weak) low h = (λ e. omega arith, (without_decimal b n low h, (((λ e. omega arith), tt), tt)))
+without_fields b (Load c w a) low h = (λ e. omega arith, (without_decimal b c low h.0, (without_decimal b w low h.1, (without_decimal b a low h.2, tt))))
 without_fields b (Store c w a v) low h =
-    (without_decimal b c low h.0, (without_decimal b w low h.1, (without_decimal b a low h.2, (without_decimal b v low h.3, tt))))
-without_fields b (Serve c) low h = (without_decimal b c low h, tt)
-without_fields b (Deliver c) low h = (without_decimal b c low h, tt)
-without_fields b Tick low h = tt
-
-above : (c : Call) → 48 < letter c
-above (Start n p) = lit< tt
-above (Load c w a) = lit< tt
-above (Store c w a v) = lit< tt
-above (Serve c) = lit< tt
-above (Deliver c) = lit< tt
-above Tick = lit< tt
-
-read_start : (n : ℕ) (p : Protocol) → n < 2 ^ 32 → start_of (decimal n ∷ sign p ∷ []) ≡ Some (Start n p)
-read_start n Strong h = rw (number_decimal n h) refl
-read_start n Weak h = rw (number_decimal n h) refl
+    (λ e. omega arith, (without_decimal b c low h.0, (without_decimal b w low h.1, (without_decimal b a low h.2, (without_decimal b v low h.3, tt)))))
+without_fields b (Serve c) low h = (λ e. omega arith, (without_decimal b c low h, tt))
+without_fields b (Deliver c) low h = (λ e. omega arith, (without_decimal b c low h, tt))
+without_fields b Tick low h = (λ e. omega arith, tt)
 
 read_fields : (c : Call) → FitsWords c → read ((letter c ∷ []) ∷ fields c) ≡ Some c
-read_fields (Start n p) h = read_start n p h
+read_fields (Start n Strong) h = rw (number_decimal n h) refl
+read_fields (Start n Weak) h = rw (number_decimal n h) refl
 read_fields (Load c w a) h = rw (number_decimal c h.0, number_decimal w h.1, number_decimal a h.2) refl
 read_fields (Store c w a v) h = rw (number_decimal c h.0, number_decimal w h.1, number_decimal a h.2, number_decimal v h.3) refl
 read_fields (Serve c) h = rw (number_decimal c h) refl
@@ -90,12 +61,13 @@ read_fields Tick h = refl
 -- a call that was written as a line is read back
 parse_written : (c : Call) → FitsWords c → parse_line (written c) ≡ Some c
 parse_written c h =
-    ap read (split_spaced (letter c ∷ []) (fields c) ((λ e. omega (arith, above c)), tt) (without_fields 32 c (lit< tt) h)) ∙ read_fields c h
+    let free = without_fields 32 c (lit< tt) h in
+    ap read (split_spaced (letter c ∷ []) (fields c) (free.0, tt) free.1) ∙ read_fields c h
 
 without_written : (c : Call) → FitsWords c → Without 10 (written c)
-without_written c h = (λ e. omega (arith, above c), without_spaced (fields c) (without_fields 10 c (lit< tt) h))
+without_written c h = let free = without_fields 10 c (lit< tt) h in (free.0, without_spaced (fields c) free.1)
 
-read_lines : (cs : List Call) → AllByRecursion FitsWords cs → script (lines cs) ≡ map (λ c. Some c) cs
+pub read_lines : (cs : List Call) → AllByRecursion FitsWords cs → script (lines cs) ≡ map (λ c. Some c) cs
 read_lines [] h = refl
 read_lines (c ∷ cs) h =
     script_more (lines (c ∷ cs)) (written c) (lines cs) (split_part 10 (written c) (lines cs) (without_written c h.0))
@@ -103,9 +75,3 @@ read_lines (c ∷ cs) h =
 
 pub back : (line : List ℕ) (r : Option Call) → r ≡ parse_line line → Back line r
 back line r e c h w = e ∙ ap parse_line w ∙ parse_written c h
-
-pub all_back : (input read : List ℕ) → read ≡ take INPUT_BYTES input → AllBack input read
-all_back input read e cs h w short = ap script (e ∙ take_all INPUT_BYTES input short ∙ w) ∙ read_lines cs h
-
-pub few : (input read : List ℕ) → read ≡ take INPUT_BYTES input → length (script read) ≤ INPUT_BYTES
-few input read e = omega (arith, script_length read, ap length e, length-take INPUT_BYTES input)

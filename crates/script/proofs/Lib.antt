@@ -1,5 +1,3 @@
 pub mod Back
-pub mod Fronts
-pub mod Lengths
 pub mod Numbers
 pub mod Splits

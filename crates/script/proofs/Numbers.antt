@@ -1,96 +1,75 @@
-use Rattle.std.proofs.Common.{◌≡◌, ℕ, ◌+◌, ◌-◌, ◌*◌, ◌^◌, ◌<◌, ◌≤◌, true, false, cond, ◌&&◌, leb, ltb, List, [], ◌∷◌, length, Some, None, decimal, refl, ap, ◌∙◌, rules, arith, lit<}
-use Rattle.std.specs.Char.{is_ascii_digit}
-use Rattle.std.specs.List.{list_all}
-use Rattle.std.specs.Str.{IsAscii}
-use Rattle.std.proofs.lemmas.Bool.{le-leb, lt-ltb, le-ltb, and_from, cond-true, cond-false}
+use Rattle.std.proofs.Common.{◌≡◌, ℕ, suc, ◌+◌, ◌-◌, ◌*◌, ◌^◌, ◌<◌, ◌≤◌, true, false, cond, ◌&&◌, leb, eqb, List, [], ◌∷◌, length, Some, None, Bool, Option, Bor, decimal, refl, ap, ◌∙◌, rules, arith, lit<}
+use Rattle.std.specs.Str.Parse.{AllDigits}
+use Rattle.std.specs.Bool.{then_some}
+use Rattle.std.specs.Option.{MatchOption, option_map}
+use Rattle.std.proofs.Math.Nat.{add-zero}
+use Rattle.std.proofs.lemmas.Bool.{cond_both, le-leb, lt-ltb, le-ltb, ne_eqb, and_from, cond-true, cond-false}
 use Rattle.std.proofs.lemmas.Fmt.{decimal_nonempty, length-decimal-le, digits_decimal, digits_value-decimal}
-use Rattle.std.proofs.lemmas.Str.Ascii.{IsAscii-nil, IsAscii-cons}
-use Rattle.std.proofs.lemmas.Str.Parse.{IsDigitsTest, IsNumeralModel, numerals_by_fold}
-use Rattle.script.specs.Fields.{digits, fits_word, number, bind, leading_digits, after_digits}
-
--- each byte is a digit
-abbrev pub Digits : List ℕ → Type 0
-Digits f = list_all is_ascii_digit f ≡ true
+use Rattle.std.proofs.lemmas.Str.Parse.{IsNumeralModel, numerals_by_fold, tells_digits}
+use Rattle.script.specs.Fields.{is_digit, is_digit_count, fits_word, first, left, split, onto, number, number_after}
 
 -- the number that digits write after n
 abbrev read : ℕ → List ℕ → ℕ
 read n [] = n
 read n (b ∷ bs) = read (n * 10 + (b - 48)) bs
 
-pub test : IsDigitsTest Digits
-test = search rules
+pub model : IsNumeralModel (AllDigits 10) (read 0)
+model = numerals_by_fold (AllDigits 10) tells_digits read (search rules)
 
-pub model : IsNumeralModel Digits (read 0)
-model = numerals_by_fold Digits test read (search rules)
+-- a digit more
+number_more : (k n b : ℕ) (f : List ℕ) → 48 ≤ b → b ≤ 57 → number_after k n (b ∷ f) ≡ number_after (suc k) (n * 10 + (b - 48)) f
+number_more k n b f low high = cond-true _ _ _ (and_from _ _ (le-leb 48 b low) (le-leb b 57 high))
 
-pub digits_ascii : (f : List ℕ) → Digits f → IsAscii f
-digits_ascii [] h = IsAscii-nil
-digits_ascii (b ∷ bs) h =
-    let parts = test.parts b bs h in
-    IsAscii-cons b bs (omega (arith, parts.0.1)) (digits_ascii bs parts.1)
+-- a digit at the front of what is left
+pub split_digit : (d : ℕ) (xs bs : List ℕ) → xs ≡ (48 + d) ∷ bs → split 32 xs ≡ onto (48 + d) (split 32 bs)
+split_digit d xs bs e = ap (split 32) e ∙ rw (ne_eqb (48 + d) 32 (λ z. omega (arith, z))) refl
 
-digits_read : (n : ℕ) (f : List ℕ) → digits n f ≡ cond (list_all is_ascii_digit f) (Some (read n f)) None
-digits_read n [] = refl
-digits_read n (b ∷ bs) =
-    let m = n * 10 + (b - 48) in
-    elim (leb 48 b && leb b 57) as (λ t. cond t (digits m bs) None ≡ cond (t && list_all is_ascii_digit bs) (Some (read m bs)) None)
-    [ true ↦ digits_read m bs | false ↦ refl ]
+pub number_digit : (k n d : ℕ) (xs bs : List ℕ) → xs ≡ (48 + d) ∷ bs → d ≤ 9
+    → number_after k n (first (split 32 xs)) ≡ number_after (suc k) (n * 10 + d) (first (split 32 bs))
+number_digit k n d xs bs e h =
+    let same : 48 + d - 48 ≡ d = omega arith in
+    ap (λ ps. number_after k n (first ps)) (split_digit d xs bs e) ∙ number_more k n (48 + d) (first (split 32 bs)) (omega arith) (omega (arith, h))
+    ∙ ap (λ m. number_after (suc k) (n * 10 + m) (first (split 32 bs))) same
 
--- a field of 1 to 10 bytes
-number_within : (f : List ℕ) → 1 ≤ length f → length f ≤ 10 → number f ≡ bind (digits 0 f) fits_word
-number_within f low high = cond-true _ _ _ (and_from _ _ (lt-ltb 0 (length f) low) (le-leb (length f) 10 high))
+-- the digits that are read end the field where nothing follows them, or a blank
+pub field_end : (k n b : ℕ) (xs bs : List ℕ) → xs ≡ b ∷ bs → is_digit b ≡ false
+    → number_after k n (first (split 32 xs)) ≡ cond (eqb b 32 && is_digit_count k) (fits_word n) None
+field_end k n b xs bs e h =
+    ap (λ ys. number_after k n (first (split 32 ys))) e
+    ∙ elim (eqb b 32) as (λ t. number_after k n (first (cond t ([] ∷ split 32 bs) (onto b (split 32 bs)))) ≡ cond (t && is_digit_count k) (fits_word n) None)
+    [ true ↦ refl | false ↦ cond-false _ _ _ h ]
+
+-- a field that ends after n, where t holds
+pub found : (t : Bool) (r : Option ℕ) (n : ℕ) (fs : List (List ℕ)) (rest : Option (Bor (List ℕ)))
+    → r ≡ cond t (Some n) None → (t ≡ true → fs ≡ left 32 (option_map (λ x. x.now) rest))
+    → MatchOption (then_some {T = ℕ × Option (Bor (List ℕ))} t (n, rest)) (r ≡ None) (λ x. (r ≡ Some x.0) × (fs ≡ left 32 (option_map {T = Bor (List ℕ)} {U = List ℕ} (λ x. x.now) x.1)))
+found true r n fs rest e h = (e, h refl)
+found false r n fs rest e h = e
+
+-- a field of digits
+number_read : (k n : ℕ) (f : List ℕ) → AllDigits 10 f → number_after k n f ≡ cond (is_digit_count (k + length f)) (fits_word (read n f)) None
+number_read k n [] h = rw (add-zero k) refl
+number_read k n (b ∷ bs) h =
+    let parts = tells_digits.parts b bs h in
+    let shift : suc k + length bs ≡ k + suc (length bs) = omega arith in
+    number_more k n b bs parts.0.0 (omega (arith, parts.0.1)) ∙ number_read (suc k) (n * 10 + (b - 48)) bs parts.1
+    ∙ ap (λ i. cond (is_digit_count i) (fits_word (read n (b ∷ bs))) None) shift
 
 pub word_small : (n : ℕ) → n ≤ 4294967295 → fits_word n ≡ Some n
 word_small n h = cond-true _ _ _ (lt-ltb n 4294967296 (omega arith))
 
-number_read : (f : List ℕ) → 1 ≤ length f → length f ≤ 10 → Digits f → number f ≡ fits_word (read 0 f)
-number_read f some few h = number_within f some few ∙ ap (λ o. bind o fits_word) (digits_read 0 f ∙ cond-true _ _ _ h)
-
 -- what has passed 2 ^ 32 stays past it
-pub past : (n : ℕ) (f : List ℕ) → 2 ^ 32 ≤ n → bind (digits n f) fits_word ≡ None
-past n [] h = cond-false _ _ _ (le-ltb n 4294967296 (omega (arith, h)))
-past n (b ∷ bs) h =
+pub past : (k n : ℕ) (f : List ℕ) → 2 ^ 32 ≤ n → number_after k n f ≡ None
+past k n [] h = cond_both (is_digit_count k) (fits_word n) None (λ o. o ≡ None) (λ t. cond-false _ _ _ (le-ltb n 4294967296 (omega (arith, h)))) (λ t. refl)
+past k n (b ∷ bs) h =
     let m = n * 10 + (b - 48) in
-    let ih : bind (digits m bs) fits_word ≡ None = past m bs (omega (arith, h)) in
-    elim (leb 48 b && leb b 57) as (λ t. bind (cond t (digits m bs) None) fits_word ≡ None) [ true ↦ ih | false ↦ refl ]
-
--- what digits write does not fit
-pub number_none : (f : List ℕ) → bind (digits 0 f) fits_word ≡ None → number f ≡ None
-number_none f h =
-    elim (ltb 0 (length f) && leb (length f) 10) as (λ t. cond t (bind (digits 0 f) fits_word) None ≡ None) [ true ↦ h | false ↦ refl ]
-
--- they are as many as a number may have, or not
-pub number_fit : (f : List ℕ) (k : ℕ) → k ≡ length f → (ltb 0 k && leb k 10) ≡ true → number f ≡ bind (digits 0 f) fits_word
-number_fit f k same h = cond-true _ _ _ (rw same at h)
-
-pub number_unfit : (f : List ℕ) (k : ℕ) → k ≡ length f → (ltb 0 k && leb k 10) ≡ false → number f ≡ None
-number_unfit f k same h = cond-false _ _ _ (rw same at h)
-
--- a digit at the front
-digit : (d : ℕ) → d ≤ 9 → (leb 48 (48 + d) && leb (48 + d) 57) ≡ true
-digit d h = and_from _ _ (le-leb 48 (48 + d) (omega arith)) (le-leb (48 + d) 57 (omega (arith, h)))
-
-pub leading_more : (d : ℕ) (bs : List ℕ) → d ≤ 9 → leading_digits ((48 + d) ∷ bs) ≡ (48 + d) ∷ leading_digits bs
-leading_more d bs h = cond-true _ _ _ (digit d h)
-
-pub after_more : (d : ℕ) (bs : List ℕ) → d ≤ 9 → after_digits ((48 + d) ∷ bs) ≡ after_digits bs
-after_more d bs h = cond-true _ _ _ (digit d h)
-
-digits_more : (n d : ℕ) (f : List ℕ) → d ≤ 9 → digits n ((48 + d) ∷ f) ≡ digits (n * 10 + d) f
-digits_more n d f h =
-    let same : n * 10 + (48 + d - 48) ≡ n * 10 + d = omega arith in
-    cond-true _ _ _ (digit d h) ∙ ap (λ m. digits m f) same
-
--- what a digit at the front of what is left makes of the number so far
-pub read_more : (n d : ℕ) (here after : List ℕ) → here ≡ (48 + d) ∷ after → d ≤ 9
-    → bind (digits n (leading_digits here)) fits_word ≡ bind (digits (n * 10 + d) (leading_digits after)) fits_word
-read_more n d here after e h =
-    ap (λ bs. bind (digits n (leading_digits bs)) fits_word) e ∙ ap (λ f. bind (digits n f) fits_word) (leading_more d after h)
-    ∙ ap (λ o. bind o fits_word) (digits_more n d (leading_digits after) h)
+    cond_both (leb 48 b && leb b 57) (number_after (suc k) m bs) None (λ o. o ≡ None) (λ t. past (suc k) m bs (omega (arith, h))) (λ t. refl)
 
 -- a number below 2 ^ 32 is read back
 pub number_decimal : (n : ℕ) → n < 2 ^ 32 → number (decimal n) ≡ Some n
 number_decimal n h =
     let some : 1 ≤ length (decimal n) = decimal_nonempty n (omega arith) in
     let few : length (decimal n) ≤ 10 = length-decimal-le 10 n (lit< tt) (omega arith) (omega arith) in
-    number_read (decimal n) some few (digits_decimal model n (omega arith)) ∙ ap fits_word (digits_value-decimal model n (omega arith)) ∙ word_small n (omega arith)
+    number_read 0 0 (decimal n) (digits_decimal model n (omega arith))
+    ∙ cond-true (is_digit_count (0 + length (decimal n))) _ _ (and_from _ _ (lt-ltb 0 (0 + length (decimal n)) (omega (arith, some))) (le-leb (0 + length (decimal n)) 10 (omega (arith, few))))
+    ∙ ap fits_word (digits_value-decimal model n (omega arith)) ∙ word_small n (omega arith)

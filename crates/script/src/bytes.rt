@@ -1,7 +1,7 @@
 //! Bytes: cut at one, and the numbers that they write.
-ghost use Rattle.std.specs.Prelude.{◌≡◌, ◌+◌, ◌*◌, ◌^◌, ◌<◌, ◌≤◌, ◌&&◌, nat_lt, nat_le, [], ◌∷◌, Some, None, MatchOption};
+ghost use Rattle.std.specs.Prelude.{◌≡◌, ℕ, List, false, ◌+◌, ◌*◌, ◌^◌, ◌<◌, ◌≤◌, ◌∷◌, Some, None, MatchOption};
 ghost use Rattle.std.specs.Option.{option_map};
-ghost use Rattle.script.specs.Fields.{split, left, first, others, number, leading_digits, after_digits};
+ghost use Rattle.script.specs.Fields.{split, left, first, others, number, is_digit, is_digit_count};
 
 /// The bytes before the first byte `b`, and those after it; all, where there is none.
 pub(crate) fn cut(bytes: &[u8], b: u8) -> (&[u8], Option<&[u8]>)
@@ -14,7 +14,7 @@ pub(crate) fn cut(bytes: &[u8], b: u8) -> (&[u8], Option<&[u8]>)
 /// The digit at the front, and what follows it.
 #[inline(always)]
 fn leading_digit(bytes: &[u8]) -> Option<(u32, &[u8])>
-    ensures { MatchOption result ((leading_digits bytes.now ≡ []) × (after_digits bytes.now ≡ bytes.now)) (λ r. (bytes.now ≡ (48 + r.0) ∷ r.1.now) × (r.0 ≤ 9)) }
+    ensures { MatchOption result ((b : ℕ) (bs : List ℕ) → bytes.now ≡ b ∷ bs → is_digit b ≡ false) (λ r. (bytes.now ≡ (48 + r.0) ∷ r.1.now) × (r.0 ≤ 9)) }
 {
     match bytes {
         [digit @ b'0'..=b'9', after @ ..] => Some((u32::from(*digit - b'0'), after)),
@@ -33,27 +33,9 @@ fn with_digit(number: u32, digit: u32) -> Option<u32>
 /// Whether a number may have so many digits.
 #[inline(always)]
 fn is_digit_count(count: usize) -> bool
-    ensures { result ≡ (nat_lt 0 count && nat_le count 10) }
+    ensures { result ≡ is_digit_count count }
 {
     count > 0 && count <= 10
-}
-
-/// The number that the digits at the front write, of 1 to 10 digits and below 2 to the 32nd, and what
-/// follows them.
-#[inline(always)]
-fn leading_number(bytes: &[u8]) -> Option<(u32, &[u8])>
-    ensures { MatchOption result (number (leading_digits bytes.now) ≡ None) (λ r. (number (leading_digits bytes.now) ≡ Some r.0) × (r.1.now ≡ after_digits bytes.now)) }
-{
-    let mut number = 0u32;
-    let mut rest = bytes;
-    while let Some((digit, after)) = leading_digit(rest) {
-        number = with_digit(number, digit)?;
-        rest = after;
-    }
-    if !is_digit_count(bytes.len() - rest.len()) {
-        return None;
-    }
-    Some((number, rest))
 }
 
 /// The number of the first field, and the bytes of the fields after it, where there are any; none where
@@ -62,9 +44,15 @@ fn leading_number(bytes: &[u8]) -> Option<(u32, &[u8])>
 pub(crate) fn first_number(bytes: &[u8]) -> Option<(u32, Option<&[u8]>)>
     ensures { MatchOption result (number (first (split 32 bytes.now)) ≡ None) (λ r. (number (first (split 32 bytes.now)) ≡ Some r.0) × (others (split 32 bytes.now) ≡ left 32 (option_map (λ x. x.now) r.1))) }
 {
-    let (number, after) = leading_number(bytes)?;
-    let Some((byte, rest)) = after.split_first() else {
-        return Some((number, None));
+    let mut number = 0u32;
+    let mut rest = bytes;
+    while let Some((digit, after)) = leading_digit(rest) {
+        number = with_digit(number, digit)?;
+        rest = after;
+    }
+    let fits = is_digit_count(bytes.len() - rest.len());
+    let Some((byte, after)) = rest.split_first() else {
+        return fits.then_some((number, None));
     };
-    (*byte == b' ').then_some((number, Some(rest)))
+    ((*byte == b' ') & fits).then_some((number, Some(after)))
 }

@@ -123,7 +123,6 @@ impl OutputLine {
     }
 
     /// Puts what a call came to before the line.
-    #[tactic(auto, using(crate::proofs::Lengths::text_length))]
     fn prepend_outcome(&mut self, outcome: Outcome)
         requires { length self.old + 60 ≤ ROOM }
         ensures line { self.new ≡ outcome_text outcome ++ self.old }

@@ -15,7 +15,7 @@ use std::marker::Model;
 pub const INPUT_BYTES: usize = 65536;
 
 /// The first `INPUT_BYTES` bytes, or all where there are fewer.
-#[tactic(auto, using(crate::proofs::Splits::take_few))]
+#[tactic(auto, using(std::proofs::lemmas::List::take_min))]
 fn limited(input: &[u8]) -> &[u8]
     ensures { result.now ≡ take INPUT_BYTES input.now }
 {

@@ -1,6 +1,10 @@
-use Rattle.std.proofs.Common.{◌≡◌, length, decimal, drop, ap, sym, arith, length-drop, length-append}
-use Rattle.script.proofs.Lengths.{number_length}
+use Rattle.std.proofs.Common.{◌≡◌, ℕ, ◌^◌, ◌<◌, ◌≤◌, lit<, length, decimal, drop, ap, sym, arith, length-drop, length-append}
+use Rattle.std.proofs.lemmas.Fmt.{length-decimal-le}
 use Rattle.script.proofs.output.OutputLine.prepend_number.Goals as goal
+
+-- a number has at most 20 digits
+number_length : (n : ℕ) → n < 2 ^ 64 → length (decimal n) ≤ 20
+number_length n h = length-decimal-le 20 n (lit< tt) (omega arith) (omega arith)
 
 pub write_digits-self-inside-requires : goal.write_digits-self-inside-requires
 write_digits-self-inside-requires c =
