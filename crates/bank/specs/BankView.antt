@@ -13,6 +13,7 @@ pub record BankInBounds (b : BankTables) : Type 0 where
   pub line_count : b.line_count ≡ count_by is_some b.lines.items
   pub line_room : b.line_count ≤ LINES
   pub kept : vec_len b.kept ≡ WORDS
-  pub kept_room : count_by (nat_le 1) b.kept.items ≤ KEPT_STAMPS
+  pub kept_count : b.kept_count ≡ count_by (nat_le 1) b.kept.items
+  pub kept_room : b.kept_count ≤ KEPT_STAMPS
   pub waiting : length b.waiting ≡ LANES
   pub waiting_count : b.waiting_count ≡ count_by is_some b.waiting

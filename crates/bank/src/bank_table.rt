@@ -12,13 +12,14 @@ use std::marker::Model;
 /// address on which its oldest request was told to wait.
 #[derive(Drop)]
 pub struct Bank {
-    line_count: usize,
-    lines: Vec<Option<Line>>,
+    pub(crate) line_count: usize,
+    pub(crate) lines: Vec<Option<Line>>,
     /// 0 where no stamp is kept
-    kept: Vec<u32>,
-    waiting: [Option<u32>; LANES],
+    pub(crate) kept: Vec<u32>,
+    pub(crate) kept_count: usize,
+    pub(crate) waiting: [Option<u32>; LANES],
     /// how many lanes wait
-    waiting_count: usize,
+    pub(crate) waiting_count: usize,
 }
 
 impl Model for Bank {
@@ -34,7 +35,7 @@ impl Model for Bank {
 }
 
 /// A stamp that runs, else 0: ticks begin at 1, so the rules and the answers have 0 for none.
-fn live(stamp: u32, clock: u32) -> u32
+pub(crate) fn live(stamp: u32, clock: u32) -> u32
     ensures { result ≡ live stamp clock }
 {
     if runs(stamp, clock) { stamp } else { 0 }
@@ -49,6 +50,7 @@ impl Bank {
             lines: vec![in heap; None; WORDS]?,
             line_count: 0,
             kept: vec![in heap; 0u32; WORDS]?,
+            kept_count: 0,
             waiting: [None; LANES],
             waiting_count: 0,
         })
@@ -61,12 +63,13 @@ impl Bank {
         self.lines.fill(None);
         self.line_count = 0;
         self.kept.fill(0);
+        self.kept_count = 0;
         self.waiting = [None; LANES];
         self.waiting_count = 0;
     }
 
     /// The line of an address, by its fields, so that no padding is copied.
-    pub(crate) fn line(&self, address: u32) -> Option<Line>
+    pub fn line(&self, address: u32) -> Option<Line>
         ensures { result ≡ line_of self.now address }
     {
         let Line {
@@ -139,6 +142,7 @@ impl Bank {
         ensures { self.new ≡ with_line (with_kept self.old address 0) address (Some line) }
     {
         let place = address as usize;
+        self.kept_count -= usize::from(self.kept[place] >= 1);
         self.kept[place] = 0;
         self.lines[place] = Some(line);
         self.line_count += 1;

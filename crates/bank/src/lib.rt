@@ -2,5 +2,6 @@
 #![tactic(auto)]
 
 pub mod bank_table;
+pub mod evicting;
 mod leases;
 pub mod serving;

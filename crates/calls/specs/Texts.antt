@@ -4,7 +4,7 @@ use Rattle.calls.specs.Causes.{number_of, text_of}
 use Rattle.calls.specs.declared.outcome.Delivered.{Delivered}
 use Rattle.calls.specs.declared.outcome.Delivered.TheVariants.{Load, Store, Atomic, Fault}
 use Rattle.calls.specs.declared.outcome.Outcome.{Outcome}
-use Rattle.calls.specs.declared.outcome.Outcome.TheVariants.{Started, Hit, Sent, Served, Delivered as Handed, Ticked, Refused}
+use Rattle.calls.specs.declared.outcome.Outcome.TheVariants.{Started, Hit, Sent, Served, Delivered as Handed, Ticked, Evicted, Forgotten, NoCopy, Refused}
 
 -- two numbers, a blank apart
 abbrev pub pair : ℕ → ℕ → List ℕ
@@ -25,4 +25,7 @@ outcome_text Sent = codes "sent"
 outcome_text Served = codes "served"
 outcome_text (Handed d) = delivered_text d
 outcome_text (Ticked clock) = codes "tick " ++ decimal clock
+outcome_text Evicted = codes "evicted"
+outcome_text Forgotten = codes "forgotten"
+outcome_text NoCopy = codes "no copy"
 outcome_text (Refused cause) = codes "refused " ++ (decimal (number_of cause) ++ (codes " " ++ text_of cause))

@@ -51,6 +51,20 @@ pub enum Call {
         address: u32,
         value: u32,
     },
+    /// `A`: a wave of a core adds a value to the word at an address, modulo 2^32
+    Add {
+        core: u32,
+        wave: u32,
+        address: u32,
+        value: u32,
+    },
+    /// `X`: a wave of a core exchanges the word at an address for a value
+    Exchange {
+        core: u32,
+        wave: u32,
+        address: u32,
+        value: u32,
+    },
     /// `V`: the bank serves a core's oldest request
     Serve {
         core: u32,
@@ -61,4 +75,13 @@ pub enum Call {
     },
     /// `T`: the clock goes on by one
     Tick,
+    /// `E`: the line of an address leaves the bank
+    Evict {
+        address: u32,
+    },
+    /// `K`: a core drops its copy of an address
+    Forget {
+        core: u32,
+        address: u32,
+    },
 }

@@ -26,7 +26,7 @@ pub enum Outcome {
     Started,
     /// Load, `load`: the core had a running copy
     Hit { address: u32, value: u32 },
-    /// Load or Store, `sent`: a request was put and noted
+    /// Load, Store, Add or Exchange, `sent`: a request was put and noted
     Sent,
     /// Serve, `served`: an answer was put
     Served,
@@ -34,6 +34,12 @@ pub enum Outcome {
     Delivered(Delivered),
     /// Tick, `tick`: the clock after it
     Ticked(u32),
+    /// Evict, `evicted`: the line left the bank
+    Evicted,
+    /// Forget, `forgotten`: the copy went
+    Forgotten,
+    /// Forget, `no copy`: the core had no copy of the address
+    NoCopy,
     /// any call, `refused`, the cause's number and its text: nothing changed, save that cause 7 marks the lane as waiting
     Refused(Refusal),
 }
@@ -62,7 +68,10 @@ impl Outcome {
             | Outcome::Hit { .. }
             | Outcome::Sent
             | Outcome::Served
-            | Outcome::Ticked(_) => None,
+            | Outcome::Ticked(_)
+            | Outcome::Evicted
+            | Outcome::Forgotten
+            | Outcome::NoCopy => None,
         }
     }
 }
@@ -91,6 +100,9 @@ impl fmt::Display for Outcome {
             Outcome::Served => f.write_str("served"),
             Outcome::Delivered(delivered) => write!(f, "{delivered}"),
             Outcome::Ticked(clock) => write!(f, "tick {clock}"),
+            Outcome::Evicted => f.write_str("evicted"),
+            Outcome::Forgotten => f.write_str("forgotten"),
+            Outcome::NoCopy => f.write_str("no copy"),
             Outcome::Refused(refusal) => write!(f, "refused {} {refusal}", u32::from(*refusal)),
         }
     }

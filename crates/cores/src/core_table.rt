@@ -4,7 +4,7 @@ ghost use Rattle.std.specs.List.{list_any};
 ghost use Rattle.std.specs.Option.{option_map};
 ghost use Rattle.lanes.specs.Lanes.{oldest};
 ghost use Rattle.messages.specs.Requests.{wave_of};
-ghost use Rattle.rules.specs.Cores.{fresh_core, fenced, on, writes_on, running_value, hit, dropped, issued, took, filled, raised, handed, delivery};
+ghost use Rattle.rules.specs.Cores.{copy_at, fresh_core, holds, fenced, on, writes_on, running_value, hit, dropped, issued, took, filled, raised, handed, delivery};
 
 use crate::delivery::delivery;
 use calls::outcome::Delivered;
@@ -149,14 +149,17 @@ impl Core {
         Some(value)
     }
 
-    /// Drops the copy of an address, running or not.
-    fn drop_copy(&mut self, address: u32)
-        ensures { self.new ≡ dropped self.old address }
+    /// Drops the copy of an address, running or not: whether there was one.
+    pub fn forget(&mut self, address: u32) -> bool
+        ensures there { result ≡ holds (copy_at self.old address) address }
+        ensures after { self.new ≡ dropped self.old address }
     {
         let place = address as usize % COPY_PLACES;
-        if self.copies[place].is_some_and(|copy| copy.address == address) {
+        let there = self.copies[place].is_some_and(|copy| copy.address == address);
+        if there {
             self.copies[place] = None;
         }
+        there
     }
 
     /// Notes a request as the youngest pending one; a store or atomic first drops the copy of its
@@ -167,7 +170,7 @@ impl Core {
         ensures { self.new ≡ issued self.old request }
     {
         if request.writes() {
-            self.drop_copy(request.address());
+            let _ = self.forget(request.address());
         }
         self.pending.push_back_reserved(request);
     }

@@ -2,6 +2,7 @@
 #![tactic(auto)]
 
 pub mod delivering;
+pub mod evicting;
 pub mod issuing;
 pub mod machine;
 pub mod making;

@@ -40,12 +40,41 @@ impl<Q: LaneNet<Request>, R: LaneNet<Answer>, M: Memory, P: LifetimePolicy> Mach
                 self.store(core, wave, address, value)?;
                 Outcome::Sent
             }
+            Call::Add {
+                core,
+                wave,
+                address,
+                value,
+            } => {
+                self.add(core, wave, address, value)?;
+                Outcome::Sent
+            }
+            Call::Exchange {
+                core,
+                wave,
+                address,
+                value,
+            } => {
+                self.exchange(core, wave, address, value)?;
+                Outcome::Sent
+            }
             Call::Serve { core } => {
                 self.serve(core)?;
                 Outcome::Served
             }
             Call::Deliver { core } => Outcome::Delivered(self.deliver(core)?),
             Call::Tick => Outcome::Ticked(self.tick()?),
+            Call::Evict { address } => {
+                self.evict(address)?;
+                Outcome::Evicted
+            }
+            Call::Forget { core, address } => {
+                if self.forget(core, address)? {
+                    Outcome::Forgotten
+                } else {
+                    Outcome::NoCopy
+                }
+            }
         };
         Ok(outcome)
     }

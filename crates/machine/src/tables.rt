@@ -1,12 +1,14 @@
 //! The machine's tables: the clock, the protocol, the cores and the bank.
-ghost use Rattle.std.specs.Prelude.{◌≡◌, ◌<◌, ℕ, ◌+◌, ◌≤◌, Ok, Err, length, nat_le, None, replicate, IfOk, OnOk, MatchOption, MatchResult, vec_capacity, vec_len};
+ghost use Rattle.std.specs.Prelude.{◌≡◌, ◌<◌, ℕ, ◌+◌, ◌≤◌, Ok, Err, length, nat_le, None, Some, false, replicate, IfOk, OnOk, MatchOption, MatchResult, vec_capacity, vec_len};
 ghost use Rattle.std.specs.Option.{option_map};
 ghost use Rattle.sizes.specs.declared.TheConstants.{WORDS};
 ghost use Rattle.lanes.specs.Lanes.{oldest};
 ghost use Rattle.messages.specs.Requests.{address_of, wave_of};
-ghost use Rattle.rules.specs.Bank.{with_mark};
+ghost use Rattle.rules.specs.Bank.{line_of, with_mark};
+ghost use Rattle.rules.specs.Evicting.{bank_without, kept_full};
+ghost use Rattle.rules.specs.Stamps.{runs};
 ghost use Rattle.rules.specs.Checks.{core_check};
-ghost use Rattle.rules.specs.Cores.{delivery, fresh_core, issued};
+ghost use Rattle.rules.specs.Cores.{copy_at, delivery, dropped, fresh_core, holds, issued};
 ghost use Rattle.rules.specs.Delivering.{handed_at};
 ghost use Rattle.rules.specs.Issuing.{issue_check};
 ghost use Rattle.rules.specs.Serving.{turn_at};
@@ -24,6 +26,8 @@ use memories::memory::Memory;
 use messages::answer::Answer;
 use messages::request::Request;
 use rules::clock::Clock;
+use rules::record::Line;
+use rules::stamp::runs;
 use sizes::{LANES, PENDING_REQUESTS, WAVES};
 use std::alloc::{AllocError, Global};
 use std::marker::Model;
@@ -167,6 +171,15 @@ impl Tables {
         self.cores[core as usize].issue(request);
     }
 
+    /// Drops a core's copy of an address, running or not: whether there was one.
+    pub(crate) fn forget(&mut self, core: u32, address: u32) -> bool
+        requires { core < length self.old.cores }
+        ensures there { result ≡ holds (copy_at (core_at self.old core) address) address }
+        ensures after { self.new ≡ with_core self.old core (dropped (core_at self.old core) address) }
+    {
+        self.cores[core as usize].forget(address)
+    }
+
     /// Takes the oldest pending request of a core, does what the answer to it changes, and tells what is
     /// handed to the core. Without a pending request nothing changes.
     #[inline(always)]
@@ -177,6 +190,33 @@ impl Tables {
     {
         let clock = self.clock.tick();
         self.cores[core as usize].deliver(clock, answer)
+    }
+
+    /// The line of an address.
+    pub(crate) fn line(&self, address: u32) -> Option<Line>
+        ensures { result ≡ line_of self.now.bank address }
+    {
+        self.bank.line(address)
+    }
+
+    /// Cause 10, for a line that is to leave.
+    pub(crate) fn is_kept_full(&self, line: Line) -> bool
+        ensures { result ≡ kept_full self.now.bank self.now.clock line }
+    {
+        self.bank.is_kept_full(line, self.clock.tick())
+    }
+
+    /// The line of an address leaves the bank, and its running stamp is kept: whether it runs.
+    pub(crate) fn evict(&mut self, address: u32, line: Line) -> bool
+        requires known { address < WORDS }
+        requires there { line_of self.old.bank address ≡ Some line }
+        requires room { kept_full self.old.bank self.old.clock line ≡ false }
+        ensures left { result ≡ runs line.stamp self.old.clock }
+        ensures after { self.new ≡ with_bank self.old (bank_without self.old.bank self.old.clock address line) }
+    {
+        let clock = self.clock.tick();
+        self.bank.evict(address, line, clock);
+        runs(line.stamp, clock)
     }
 
     /// A request's turn at the bank.

@@ -1,7 +1,7 @@
 -- A script that was written from calls is read back.
 use Rattle.std.proofs.Common.{◌≡◌, ℕ, ◌^◌, ◌<◌, List, [], ◌∷◌, ◌++◌, map, Some, decimal, Option, refl, ap, ◌∙◌, append-nil, arith, lit<}
 use Rattle.calls.specs.declared.call.Call.{Call}
-use Rattle.calls.specs.declared.call.Call.TheVariants.{Start, Load, Store, Serve, Deliver, Tick}
+use Rattle.calls.specs.declared.call.Call.TheVariants.{Start, Load, Store, Add, Exchange, Serve, Deliver, Tick, Evict, Forget}
 use Rattle.calls.specs.declared.call.Protocol.TheVariants.{Strong, Weak}
 use Rattle.std.proofs.lemmas.Fmt.{digits_decimal}
 use Rattle.std.specs.List.{AllByRecursion}
@@ -45,18 +45,28 @@ without_fields b (Start n Weak) low h = (λ e. omega arith, (without_decimal b n
 without_fields b (Load c w a) low h = (λ e. omega arith, (without_decimal b c low h.0, (without_decimal b w low h.1, (without_decimal b a low h.2, tt))))
 without_fields b (Store c w a v) low h =
     (λ e. omega arith, (without_decimal b c low h.0, (without_decimal b w low h.1, (without_decimal b a low h.2, (without_decimal b v low h.3, tt)))))
+without_fields b (Add c w a v) low h =
+    (λ e. omega arith, (without_decimal b c low h.0, (without_decimal b w low h.1, (without_decimal b a low h.2, (without_decimal b v low h.3, tt)))))
+without_fields b (Exchange c w a v) low h =
+    (λ e. omega arith, (without_decimal b c low h.0, (without_decimal b w low h.1, (without_decimal b a low h.2, (without_decimal b v low h.3, tt)))))
 without_fields b (Serve c) low h = (λ e. omega arith, (without_decimal b c low h, tt))
 without_fields b (Deliver c) low h = (λ e. omega arith, (without_decimal b c low h, tt))
 without_fields b Tick low h = (λ e. omega arith, tt)
+without_fields b (Evict a) low h = (λ e. omega arith, (without_decimal b a low h, tt))
+without_fields b (Forget c a) low h = (λ e. omega arith, (without_decimal b c low h.0, (without_decimal b a low h.1, tt)))
 
 read_fields : (c : Call) → FitsWords c → read ((letter c ∷ []) ∷ fields c) ≡ Some c
 read_fields (Start n Strong) h = rw (number_decimal n h) refl
 read_fields (Start n Weak) h = rw (number_decimal n h) refl
 read_fields (Load c w a) h = rw (number_decimal c h.0, number_decimal w h.1, number_decimal a h.2) refl
 read_fields (Store c w a v) h = rw (number_decimal c h.0, number_decimal w h.1, number_decimal a h.2, number_decimal v h.3) refl
+read_fields (Add c w a v) h = rw (number_decimal c h.0, number_decimal w h.1, number_decimal a h.2, number_decimal v h.3) refl
+read_fields (Exchange c w a v) h = rw (number_decimal c h.0, number_decimal w h.1, number_decimal a h.2, number_decimal v h.3) refl
 read_fields (Serve c) h = rw (number_decimal c h) refl
 read_fields (Deliver c) h = rw (number_decimal c h) refl
 read_fields Tick h = refl
+read_fields (Evict a) h = rw (number_decimal a h) refl
+read_fields (Forget c a) h = rw (number_decimal c h.0, number_decimal a h.1) refl
 
 -- a call that was written as a line is read back
 parse_written : (c : Call) → FitsWords c → parse_line (written c) ≡ Some c

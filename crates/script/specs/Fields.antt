@@ -59,9 +59,12 @@ abbrev pub end : {A : Type 0} → A → List (List ℕ) → Option A
 end x [] = Some x
 end x (f ∷ fs) = None
 
--- the numbers of all fields that are left: one, three, four
+-- the numbers of all fields that are left: one, two, three, four
 abbrev pub one : List (List ℕ) → Option ℕ
 one fs = next fs end
+
+abbrev pub two : List (List ℕ) → Option (ℕ × ℕ)
+two fs = next fs (λ a fs. next fs (λ b fs. end (a, b) fs))
 
 abbrev pub three : List (List ℕ) → Option (ℕ × ℕ × ℕ)
 three fs = next fs (λ a fs. next fs (λ b fs. next fs (λ c fs. end (a, b, c) fs)))

@@ -4,7 +4,7 @@ ghost use Rattle.std.specs.Option.{ok_or};
 ghost use Rattle.std.specs.Result.{result_ok};
 ghost use Rattle.calls.specs.declared.refusal.Refusal.TheVariants.{NotACall};
 ghost use Rattle.script.specs.Fields.{bind, first, others};
-ghost use Rattle.script.specs.Lines.{letter_of, call_of, parse_line};
+ghost use Rattle.script.specs.Lines.{letter_of, call_of, other_call_of, parse_line};
 ghost use Rattle.script.specs.Written.{Back};
 
 use crate::fields::Fields;
@@ -40,6 +40,28 @@ fn call(mut fields: Fields<'_>) -> Option<Call>
             address: fields.number()?,
             value: fields.number()?,
         },
+        b'A' => Call::Add {
+            core: fields.number()?,
+            wave: fields.number()?,
+            address: fields.number()?,
+            value: fields.number()?,
+        },
+        b'X' => Call::Exchange {
+            core: fields.number()?,
+            wave: fields.number()?,
+            address: fields.number()?,
+            value: fields.number()?,
+        },
+        letter => return other_call(letter, fields),
+    };
+    fields.end(call)
+}
+
+/// The call of a letter that is none of those, and of the fields behind it.
+fn other_call(letter: u8, mut fields: Fields<'_>) -> Option<Call>
+    ensures { result ≡ other_call_of letter fields.entry }
+{
+    let other = match letter {
         b'V' => Call::Serve {
             core: fields.number()?,
         },
@@ -47,7 +69,14 @@ fn call(mut fields: Fields<'_>) -> Option<Call>
             core: fields.number()?,
         },
         b'T' => Call::Tick,
+        b'E' => Call::Evict {
+            address: fields.number()?,
+        },
+        b'K' => Call::Forget {
+            core: fields.number()?,
+            address: fields.number()?,
+        },
         _ => return None,
     };
-    fields.end(call)
+    fields.end(other)
 }

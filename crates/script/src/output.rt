@@ -141,6 +141,9 @@ impl OutputLine {
                 self.prepend_number(u64::from(clock));
                 self.prepend(b"tick ");
             }
+            Outcome::Evicted => self.prepend(b"evicted"),
+            Outcome::Forgotten => self.prepend(b"forgotten"),
+            Outcome::NoCopy => self.prepend(b"no copy"),
             Outcome::Refused(refusal) => {
                 self.prepend(refusal.text().as_bytes());
                 self.prepend(b" ");

@@ -7,6 +7,8 @@ mod edges;
 #[cfg(test)]
 mod ends;
 #[cfg(test)]
+mod evictions;
+#[cfg(test)]
 mod lane_nets;
 #[cfg(test)]
 mod lent_rows;

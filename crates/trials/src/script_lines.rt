@@ -9,7 +9,7 @@ use std::test::Fail;
 #[test]
 fn lines_are_calls(rt: HostRuntime) {
     let mut reader = Reader::new(
-        b"N 2 S\nN 16 W\nL 0 1 2\nS 0 1 0000000007 4294967295\nV 3\nD 3\nT\n",
+        b"N 2 S\nN 16 W\nL 0 1 2\nS 0 1 0000000007 4294967295\nA 1 2 3 4\nX 5 6 7 8\nV 3\nD 3\nT\nE 9\nK 4 9\n",
     );
     for call in [
         Call::Start {
@@ -31,9 +31,26 @@ fn lines_are_calls(rt: HostRuntime) {
             address: 7,
             value: 4294967295,
         },
+        Call::Add {
+            core: 1,
+            wave: 2,
+            address: 3,
+            value: 4,
+        },
+        Call::Exchange {
+            core: 5,
+            wave: 6,
+            address: 7,
+            value: 8,
+        },
         Call::Serve { core: 3 },
         Call::Deliver { core: 3 },
         Call::Tick,
+        Call::Evict { address: 9 },
+        Call::Forget {
+            core: 4,
+            address: 9,
+        },
     ] {
         assert_eq!(rt; reader.next(), Some(Ok(call)));
     }
