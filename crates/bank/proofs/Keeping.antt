@@ -1,14 +1,15 @@
 -- How many stamps are kept, and how many of them run.
 use Rattle.std.proofs.Common.{ℕ, ◌≤◌, cond, List, [], ◌∷◌, map, nat_le, arith, rules}
 use Rattle.std.specs.List.{count_by}
+use Rattle.std.proofs.lemmas.Bool.Decides.{nat_tests}
 use Rattle.std.proofs.lemmas.List.Sums.{sum_by-le-sum_by, sum_by-cons}
 use Rattle.rules.specs.Stamps.{runs}
 use Rattle.rules.specs.Bank.{live}
+use Rattle.rules.proofs.StampProofs.{laws}
 
 -- a stamp that runs is kept
 one_running : (clock t : ℕ) → 1 ≤ clock → cond (runs t clock) 1 0 ≤ cond (nat_le 1 t) 1 0
-unfolding runs
-one_running clock t h = search rules
+one_running clock t h = let bound = laws.bound t clock in grind (arith, nat_tests, bound)
 
 pub running_kept : (clock : ℕ) (stamps : List ℕ) → 1 ≤ clock → count_by (λ (t : ℕ). runs t clock) stamps ≤ count_by (nat_le 1) stamps
 running_kept clock stamps h =
@@ -16,8 +17,7 @@ running_kept clock stamps h =
 
 -- a stamp that is left runs
 one_swept : (clock t : ℕ) → cond (nat_le 1 (live t clock)) 1 0 ≤ cond (runs t clock) 1 0
-unfolding runs
-one_swept clock t = search rules
+one_swept clock t = grind (arith, nat_tests)
 
 pub swept_running : (clock : ℕ) (stamps : List ℕ) → count_by (nat_le 1) (map (λ (t : ℕ). live t clock) stamps) ≤ count_by (λ (t : ℕ). runs t clock) stamps
 swept_running clock [] = search rules
@@ -30,8 +30,7 @@ swept_running clock (t ∷ ts) =
 
 -- a stamp that is left was kept
 one_left : (clock t : ℕ) → cond (nat_le 1 (live t clock)) 1 0 ≤ cond (nat_le 1 t) 1 0
-unfolding runs
-one_left clock t = search rules
+one_left clock t = grind (arith, nat_tests)
 
 pub swept_kept : (clock : ℕ) (stamps : List ℕ) → count_by (nat_le 1) (map (λ (t : ℕ). live t clock) stamps) ≤ count_by (nat_le 1) stamps
 swept_kept clock [] = search rules

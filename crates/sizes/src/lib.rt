@@ -2,6 +2,8 @@
 //! definitions that contracts cite.
 #![tactic(auto)]
 
+ghost use Rattle.sizes.specs.Numbers.{Numbers};
+
 /// Lanes of a net, numbered from 0: one for each core, so it is the most cores of a machine too.
 pub const LANES: usize = 16;
 
@@ -31,3 +33,8 @@ pub const LONGEST_LIFETIME: u32 = 4096;
 
 /// The clock's last tick. A lease of the longest lifetime from it ends at the largest stamp, 2^32 - 1.
 pub const LAST_TICK: u32 = 4294963199;
+
+/// The sizes are the numbers that the rules name.
+pub fn numbers()
+    ensures { Numbers }
+{}
