@@ -4,11 +4,10 @@ use Rattle.std.proofs.Common.{lit≤}
 use Rattle.std.proofs.lemmas.Bool.{le-leb}
 use Rattle.sizes.specs.declared.TheConstants.{LANES, LANE_DEPTH}
 use Rattle.messages.specs.declared.form.FiveWords as form
-use Rattle.packs.specs.declared.packed.TheConstants.{PACKED_DEPTH}
 use Rattle.packs.specs.declared.packed.Packed.{Packed}
 use Rattle.packs.specs.Packs.{pack_lanes}
 
-pub pack_shallow : PACKED_DEPTH ≤ LANE_DEPTH
+pub pack_shallow : 8 ≤ LANE_DEPTH
 pack_shallow = lit≤ tt
 
 pub pack_bare : {A : Type 0} (f : form.Ghosts A) (s : Packed A) (k : ℕ) → LANES ≤ k → pack_lanes f s k ≡ []

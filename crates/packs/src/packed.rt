@@ -1,8 +1,7 @@
 //! Messages stored as their words.
-ghost use Rattle.std.specs.Prelude.{◌≡◌, ℕ, []};
+ghost use Rattle.std.specs.Prelude.{◌≡◌, ℕ, ◌-◌, ◌^◌, [], length, min};
 ghost use Rattle.packs.specs.PackLaws.{pack_bare, pack_shallow};
 ghost use Rattle.packs.specs.Packs.{pack_lanes};
-ghost use Rattle.packs.specs.declared.packed.TheConstants.{PACKED_DEPTH};
 
 use crate::lane::Lane;
 use lanes::net::{LaneError, LaneNet};
@@ -35,7 +34,7 @@ impl<M: FiveWords + Drop> Packed<M> {
 impl<M: FiveWords + Drop> LaneNet<M> for Packed<M> {
     ghost lanes = { λ s. pack_lanes M.FiveWords s };
 
-    ghost depth = { λ _. PACKED_DEPTH };
+    ghost depth = { λ _. 8 };
 
     ghost Loan = { Unit {0} };
 
@@ -55,7 +54,11 @@ impl<M: FiveWords + Drop> LaneNet<M> for Packed<M> {
         self.lanes.get(lane as usize)?.oldest()
     }
 
-    fn count(&self, lane: u32) -> usize {
+    /// Beyond what each net promises: the count is exact, since a lane holds at most 8 messages.
+    fn count(&self, lane: u32) -> usize
+        ensures told { result ≡ min (length (pack_lanes M.FiveWords self.now lane)) (2 ^ 64 - 1) }
+        ensures exact { result ≡ length (pack_lanes M.FiveWords self.now lane) }
+    {
         self.lanes
             .get(lane as usize)
             .map_or(0, |lane| lane.count::<M>())

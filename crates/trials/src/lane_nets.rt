@@ -1,7 +1,12 @@
 //! Lane nets: rings, packed lanes, and hops over both.
+ghost use Rattle.std.specs.Prelude.{◌≡◌, length};
+ghost use Rattle.lanes.specs.Rings.{ring_lanes};
+ghost use Rattle.packs.specs.Packs.{pack_lanes};
+
 use hops::hop::Hop;
 use lanes::net::{LaneError, LaneNet};
 use lanes::ring::Ring;
+use messages::form::FiveWords;
 use messages::request::Request;
 use packs::packed::Packed;
 use std::process::Abort;
@@ -36,6 +41,53 @@ fn ends_at_lane_15<N: LaneNet<Request>>(rt: &impl Abort, net: &mut N) {
     assert_eq!(rt; net.put(16, load(1)), Err(LaneError::UnknownLane));
     assert_eq!(rt; net.count(16), 0);
     assert_eq!(rt; net.take(16), None);
+}
+
+// A caller knows exactly how many messages a lane of a ring holds.
+fn held_in_ring<M: Copy>(ring: &Ring<'_, M>, lane: u32) -> usize
+    ensures { result ≡ length (ring_lanes ring.now lane) }
+{
+    ring.count(lane)
+}
+
+// The same of packed lanes.
+fn held_in_packed<M: FiveWords + Drop>(packed: &Packed<M>, lane: u32) -> usize
+    ensures { result ≡ length (pack_lanes M.FiveWords packed.now lane) }
+{
+    packed.count(lane)
+}
+
+// A ring holds messages of any kind.
+#[test]
+fn a_ring_of_numbers(rt: HostRuntime) {
+    let mut row = [0u32; 47];
+    let mut ring = Ring::new(&mut row);
+    assert_eq!(rt; ring.depth(), 2);
+    assert_eq!(rt; ring.put(15, 7), Ok(()));
+    assert_eq!(rt; ring.put(15, 8), Ok(()));
+    assert_eq!(rt; ring.put(15, 9), Err(LaneError::LaneFull));
+    assert_eq!(rt; ring.put(16, 9), Err(LaneError::UnknownLane));
+    assert_eq!(rt; ring.count(15), 2);
+    assert_eq!(rt; ring.oldest(15), Some(7));
+    assert_eq!(rt; ring.oldest(14), None);
+    assert_eq!(rt; ring.count(16), 0);
+    assert_eq!(rt; held_in_ring(&ring, 15), 2);
+}
+
+// Lanes that are put to in turn, and one goes round.
+#[test]
+fn lanes_of_numbers_in_turn(rt: HostRuntime) {
+    let mut row = [0u32; 32];
+    let mut ring = Ring::new(&mut row);
+    assert_eq!(rt; ring.put(0, 1), Ok(()));
+    assert_eq!(rt; ring.put(1, 5), Ok(()));
+    assert_eq!(rt; ring.put(0, 2), Ok(()));
+    assert_eq!(rt; ring.take(0), Some(1));
+    assert_eq!(rt; ring.put(0, 3), Ok(()));
+    assert_eq!(rt; ring.take(0), Some(2));
+    assert_eq!(rt; ring.take(0), Some(3));
+    assert_eq!(rt; ring.take(0), None);
+    assert_eq!(rt; ring.take(1), Some(5));
 }
 
 #[test]
@@ -87,6 +139,7 @@ fn packed_lanes_take_eight(rt: HostRuntime) {
     let mut packed = Packed::new();
     assert_eq!(rt; packed.put(3, load(100)), Ok(()));
     fill(&rt, &mut packed, 15, 0, 8);
+    assert_eq!(rt; held_in_packed(&packed, 15), 8);
     drain(&rt, &mut packed, 15, 0, 8);
     drain(&rt, &mut packed, 3, 100, 101);
     ends_at_lane_15(&rt, &mut packed);

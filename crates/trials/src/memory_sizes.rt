@@ -1,6 +1,6 @@
 //! Machines over memories of every size: none, one word, one block with a rest, and past 4,096.
-use crate::scenes::{DELIVER_0, NOWHERE, SERVE_0, faulted, load, loaded, play, start};
-use calls::call::Call;
+use crate::scenes::{DELIVER_0, NOWHERE, SERVE_0, faulted, load, loaded, play};
+use calls::call::{Call, Protocol};
 use calls::outcome::Outcome;
 use images::image::Image;
 use lanes::ring::Ring;
@@ -38,10 +38,15 @@ fn play_over<M: Memory + Drop>(
     Ok(())
 }
 
+const START: Call = Call::Start {
+    cores: 1,
+    protocol: Protocol::Weak,
+};
+
 /// Of a machine whose last address is told, and of its load.
 fn ends_after(address: u32, outcome: Outcome) -> [(Call, Outcome); 5] {
     [
-        (start(1), Outcome::Started),
+        (START, Outcome::Started),
         (load(0, address.saturating_add(1)), NOWHERE),
         (load(0, address), Outcome::Sent),
         (SERVE_0, Outcome::Served),
@@ -53,7 +58,7 @@ fn ends_after(address: u32, outcome: Outcome) -> [(Call, Outcome); 5] {
 #[test]
 fn few_words(rt: HostRuntime) -> Result<(), Fail> {
     let mut none = [0u32; 0];
-    let empty = [(start(1), Outcome::Started), (load(0, 0), NOWHERE)];
+    let empty = [(START, Outcome::Started), (load(0, 0), NOWHERE)];
     play_over(&rt, rt.alloc(), Words::new(&mut none), &empty)?;
     let mut one = [9u32; 1];
     let entries = ends_after(0, loaded(0, 0, 9));

@@ -3,7 +3,7 @@ use calls::call::{Call, Protocol};
 use calls::outcome::{Delivered, Outcome};
 use calls::refusal::Refusal;
 use script::output::OutputLine;
-use script::reader::{INPUT_BYTES, Reader};
+use script::reader::Reader;
 use std::test::Fail;
 
 #[test]
@@ -71,9 +71,9 @@ fn some_lines_are_no_calls(rt: HostRuntime) {
 
 #[test]
 fn a_script_ends_after_the_bytes_that_are_read(rt: HostRuntime) {
-    let input = [b'\n'; INPUT_BYTES + 1];
+    let input = [b'\n'; 65537];
     let mut reader = Reader::new(&input);
-    for _ in 0..INPUT_BYTES {
+    for _ in 0..65536 {
         assert_eq!(rt; reader.next(), Some(Err(Refusal::NotACall)));
     }
     assert_eq!(rt; reader.next(), None);
