@@ -46,7 +46,7 @@ fn main(rt: HostRuntime) -> io::Result<()> {
         },
         tables,
     );
-    let mut out = Vec::new(rt.alloc());
+    let mut out = String::new(rt.alloc());
     play(&mut machine, SCRIPT, &mut out)?;
-    rt.stdout().write_all(&out)
+    rt.stdout().write_all(out.as_bytes())
 }

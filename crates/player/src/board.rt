@@ -1,8 +1,7 @@
 //! The machine of tcrun: zero words, rings of depth 32, and lifetime 10.
-ghost use Rattle.std.specs.Prelude.{◌≡◌, take, replicate, IfOk};
+ghost use Rattle.std.specs.Prelude.{◌≡◌, take, replicate, string_bytes, IfOk};
 ghost use Rattle.sizes.specs.declared.TheConstants.{WORDS};
-ghost use Rattle.script.specs.declared.reader.TheConstants.{INPUT_BYTES};
-ghost use Rattle.script.specs.Lines.{script};
+ghost use Rattle.script.specs.Lines.{input_bytes, script};
 ghost use Rattle.player.specs.Played.{played};
 ghost use Rattle.player.specs.Board.{board};
 
@@ -25,8 +24,8 @@ fn zero_words(heap: Global) -> Result<Vec<u32>, AllocError>
 }
 
 /// What tcrun writes for an input: a line for each of its lines. An error where memory is short.
-pub fn run(heap: Global, input: &[u8]) -> Result<Vec<u8>, AllocError>
-    ensures { IfOk result (λ out. out.items ≡ played board 10 0 (script (take INPUT_BYTES input.now))) }
+pub fn run(heap: Global, input: &[u8]) -> Result<String, AllocError>
+    ensures { IfOk result (λ out. string_bytes out ≡ played board 10 0 (script (take input_bytes input.now))) }
 {
     let mut requests = vec![in heap; Request::FILLER; LANES * RING_DEPTH]?;
     let mut answers = vec![in heap; Answer::FILLER; LANES * RING_DEPTH]?;
@@ -41,7 +40,7 @@ pub fn run(heap: Global, input: &[u8]) -> Result<Vec<u8>, AllocError>
         },
         tables,
     );
-    let mut out = Vec::new(heap);
+    let mut out = String::new(heap);
     play(&mut machine, input, &mut out)?;
     Ok(out)
 }

@@ -1,10 +1,9 @@
 //! A script played on a machine with a fixed lifetime.
-ghost use Rattle.std.specs.Prelude.{◌≡◌, ℕ, [], ◌++◌, take, is_ok, if◌then◌else◌, OnOk, OnErr};
+ghost use Rattle.std.specs.Prelude.{◌≡◌, ℕ, [], ◌++◌, take, is_ok, if◌then◌else◌, string_bytes, OnOk, OnErr};
 ghost use Rattle.std.specs.Result.{result_ok};
 ghost use Rattle.machine.specs.View.{SameLoans, view};
-ghost use Rattle.script.specs.declared.reader.TheConstants.{INPUT_BYTES};
 ghost use Rattle.script.specs.OutputLines.{output_line};
-ghost use Rattle.script.specs.Lines.{script};
+ghost use Rattle.script.specs.Lines.{input_bytes, script};
 ghost use Rattle.player.specs.Played.{Begun, line_after, lines_after, played, read_line_outcome};
 
 use calls::call::Call;
@@ -42,16 +41,16 @@ fn play_and_tell<Q: LaneNet<Request>, R: LaneNet<Answer>, M: Memory>(
     line: Result<Call, Refusal>,
     number: usize,
     line_out: &mut OutputLine,
-    out: &mut Vec<u8>,
+    out: &mut String,
 ) -> Result<(), AllocError>
-    ensures bytes { out.new.items ≡ (if is_ok result then out.old.items ++ output_line number (read_line_outcome (view Q.LaneNet R.LaneNet M.Memory machine.old) machine.old.policy.lifetime line) else out.old.items) }
+    ensures bytes { string_bytes out.new ≡ (if is_ok result then string_bytes out.old ++ output_line number (read_line_outcome (view Q.LaneNet R.LaneNet M.Memory machine.old) machine.old.policy.lifetime line) else string_bytes out.old) }
     ensures after { view Q.LaneNet R.LaneNet M.Memory machine.new ≡ line_after (view Q.LaneNet R.LaneNet M.Memory machine.old) machine.old.policy.lifetime (result_ok line) }
     ensures same { machine.new.policy.lifetime ≡ machine.old.policy.lifetime }
     ensures lent { SameLoans Q.LaneNet R.LaneNet M.Memory machine.old machine.new }
 {
     let outcome = play_line(machine, line);
     line_out.set(number, outcome);
-    out.extend_from_slice(line_out.as_bytes())
+    out.push_str(line_out.as_str())
 }
 
 /// Plays a script from its first line on, and adds a line for each of its lines. Where memory is short
@@ -59,11 +58,11 @@ fn play_and_tell<Q: LaneNet<Request>, R: LaneNet<Answer>, M: Memory>(
 pub fn play<Q: LaneNet<Request>, R: LaneNet<Answer>, M: Memory>(
     machine: &mut Machine<Q, R, M, Fixed>,
     input: &[u8],
-    out: &mut Vec<u8>,
+    out: &mut String,
 ) -> Result<(), AllocError>
-    ensures bytes { OnOk result (out.new.items ≡ out.old.items ++ played (view Q.LaneNet R.LaneNet M.Memory machine.old) machine.old.policy.lifetime 0 (script (take INPUT_BYTES input.now))) }
-    ensures after { OnOk result (view Q.LaneNet R.LaneNet M.Memory machine.new ≡ lines_after (view Q.LaneNet R.LaneNet M.Memory machine.old) machine.old.policy.lifetime (script (take INPUT_BYTES input.now))) }
-    ensures begun { OnErr result (Begun (view Q.LaneNet R.LaneNet M.Memory machine.old) machine.old.policy.lifetime (script (take INPUT_BYTES input.now)) (view Q.LaneNet R.LaneNet M.Memory machine.new) (out.old.items) (out.new.items)) }
+    ensures bytes { OnOk result (string_bytes out.new ≡ string_bytes out.old ++ played (view Q.LaneNet R.LaneNet M.Memory machine.old) machine.old.policy.lifetime 0 (script (take input_bytes input.now))) }
+    ensures after { OnOk result (view Q.LaneNet R.LaneNet M.Memory machine.new ≡ lines_after (view Q.LaneNet R.LaneNet M.Memory machine.old) machine.old.policy.lifetime (script (take input_bytes input.now))) }
+    ensures begun { OnErr result (Begun (view Q.LaneNet R.LaneNet M.Memory machine.old) machine.old.policy.lifetime (script (take input_bytes input.now)) (view Q.LaneNet R.LaneNet M.Memory machine.new) (string_bytes out.old) (string_bytes out.new)) }
     ensures same { machine.new.policy.lifetime ≡ machine.old.policy.lifetime }
     ensures lent { SameLoans Q.LaneNet R.LaneNet M.Memory machine.old machine.new }
 {

@@ -74,6 +74,10 @@ call_of l fs =
 abbrev pub parse_line : List ℕ → Option Call
 parse_line line = bind (letter_of (first (split 32 line))) (λ l. call_of l (others (split 32 line)))
 
+-- how many bytes of an input are read: 64 KiB
+abbrev pub input_bytes : ℕ
+input_bytes = 65536
+
 -- what follows the last byte 10: a line that is no call, where it is not empty
 abbrev pub remainder : List ℕ → List (Option Call)
 remainder [] = []

@@ -5,8 +5,7 @@ use Rattle.calls.specs.declared.call.Call.TheVariants.{Start, Load, Store, Add, 
 use Rattle.calls.specs.declared.call.Protocol.{Protocol}
 use Rattle.calls.specs.declared.call.Protocol.TheVariants.{Strong, Weak}
 use Rattle.std.specs.List.{AllByRecursion}
-use Rattle.script.specs.declared.reader.TheConstants.{INPUT_BYTES}
-use Rattle.script.specs.Lines.{script}
+use Rattle.script.specs.Lines.{input_bytes, script}
 
 -- the numbers of a call fit a word
 abbrev pub FitsWords : Call → Type 0
@@ -71,4 +70,4 @@ Back line r = (c : Call) → FitsWords c → line ≡ written c → r ≡ Some c
 
 -- an input that writes calls has just those lines, where it is not longer than what is read of it
 abbrev pub AllBack : List ℕ → List ℕ → Type 0
-AllBack input read = (cs : List Call) → AllByRecursion FitsWords cs → input ≡ lines cs → length input ≤ INPUT_BYTES → script read ≡ map (λ c. Some c) cs
+AllBack input read = (cs : List Call) → AllByRecursion FitsWords cs → input ≡ lines cs → length input ≤ input_bytes → script read ≡ map (λ c. Some c) cs

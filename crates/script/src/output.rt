@@ -1,5 +1,5 @@
 //! The lines of the output: each tells what a line of the script came to.
-ghost use Rattle.std.specs.Prelude.{◌≡◌, ◌+◌, ◌≤◌, [], ◌++◌, length, codes, decimal};
+ghost use Rattle.std.specs.Prelude.{◌≡◌, ◌+◌, ◌≤◌, [], ◌++◌, length, drop, codes, decimal};
 ghost use Rattle.calls.specs.Texts.{outcome_text, delivered_text, pair};
 ghost use Rattle.script.specs.declared.output.TheConstants.{ROOM};
 ghost use Rattle.script.specs.OutputLines.{output_line};
@@ -7,6 +7,7 @@ ghost use Rattle.script.specs.OutputLines.{output_line};
 use calls::outcome::{Delivered, Outcome};
 use itoa::write_digits;
 use std::marker::Model;
+use std::str;
 
 /// The bytes that a line has room for: three numbers of up to 20 digits, and 40 bytes of words and blanks.
 const ROOM: usize = 100;
@@ -19,14 +20,34 @@ pub struct OutputLine {
 }
 
 impl Model for OutputLine {
-    ghost use Rattle.std.specs.Prelude.{ℕ, List, drop, ◌≤◌};
+    ghost use Rattle.std.specs.Prelude.{ℕ, List, drop, ◌≤◌, IsUtf8};
     ghost use Rattle.script.specs.declared.output.TheConstants.{ROOM};
 
     ghost Value = { List ℕ };
 
     ghost view = { λ line. drop line.start line.bytes };
 
-    ghost invariant = { λ line. line.start ≤ ROOM };
+    ghost invariant = { λ line. (line.start ≤ ROOM) × ∥ IsUtf8 (drop line.start line.bytes) ∥₁ };
+}
+
+/// The bytes from a place on.
+fn bytes_from(bytes: &[u8], start: usize) -> &[u8]
+    requires { start ≤ length bytes.now }
+    ensures { result.now ≡ drop start bytes.now }
+{
+    &bytes[start..]
+}
+
+/// Writes a text so that it ends at `end`, and returns where it starts.
+#[inline(always)]
+fn write_text(text: &[u8], bytes: &mut [u8], end: usize) -> usize
+    requires { (length text.now ≤ end) × (end ≤ length bytes.old) }
+    ensures start { result + length text.now ≡ end }
+    ensures written { drop result bytes.new ≡ text.now ++ drop end bytes.old }
+{
+    let start = end - text.len();
+    bytes[start..end].copy_from_slice(text);
+    start
 }
 
 impl OutputLine {
@@ -44,7 +65,14 @@ impl OutputLine {
     pub fn as_bytes(&self) -> &[u8]
         ensures { result.now ≡ self.now }
     {
-        &self.bytes[self.start..]
+        bytes_from(&self.bytes, self.start)
+    }
+
+    /// The text of the line.
+    pub fn as_str(&self) -> &str
+        ensures { result.now ≡ self.now }
+    {
+        unsafe { str::from_utf8_unchecked(bytes_from(&self.bytes, self.start)) }
     }
 
     /// Makes the line that tells the outcome of line `number`: the number, a blank, the answer, byte 10.
@@ -52,9 +80,9 @@ impl OutputLine {
         ensures { self.new ≡ output_line number outcome }
     {
         self.clear();
-        self.prepend(b"\n");
+        self.prepend("\n");
         self.prepend_outcome(outcome);
-        self.prepend(b" ");
+        self.prepend(" ");
         self.prepend_number(number as u64);
     }
 
@@ -67,13 +95,11 @@ impl OutputLine {
 
     /// Puts a text before the line.
     #[inline(always)]
-    fn prepend(&mut self, text: &[u8])
+    fn prepend(&mut self, text: &str)
         requires { length text.now + length self.old ≤ ROOM }
         ensures { self.new ≡ text.now ++ self.old }
     {
-        let start = self.start - text.len();
-        self.bytes[start..self.start].copy_from_slice(text);
-        self.start = start;
+        self.start = write_text(text.as_bytes(), &mut self.bytes, self.start);
     }
 
     /// Puts a number before the line.
@@ -92,7 +118,7 @@ impl OutputLine {
         ensures short { length self.new ≤ length self.old + 41 }
     {
         self.prepend_number(u64::from(second));
-        self.prepend(b" ");
+        self.prepend(" ");
         self.prepend_number(u64::from(first));
     }
 
@@ -105,19 +131,19 @@ impl OutputLine {
         match delivered {
             Delivered::Load { address, value, .. } => {
                 self.prepend_pair(address, value);
-                self.prepend(b"load ");
+                self.prepend("load ");
             }
             Delivered::Store { address, .. } => {
                 self.prepend_number(u64::from(address));
-                self.prepend(b"store ");
+                self.prepend("store ");
             }
             Delivered::Atomic { address, value, .. } => {
                 self.prepend_pair(address, value);
-                self.prepend(b"atomic ");
+                self.prepend("atomic ");
             }
             Delivered::Fault { address, block, .. } => {
                 self.prepend_pair(address, block);
-                self.prepend(b"fault ");
+                self.prepend("fault ");
             }
         }
     }
@@ -129,26 +155,26 @@ impl OutputLine {
         ensures short { length self.new ≤ length self.old + 60 }
     {
         match outcome {
-            Outcome::Started => self.prepend(b"started"),
+            Outcome::Started => self.prepend("started"),
             Outcome::Hit { address, value } => {
                 self.prepend_pair(address, value);
-                self.prepend(b"load ");
+                self.prepend("load ");
             }
-            Outcome::Sent => self.prepend(b"sent"),
-            Outcome::Served => self.prepend(b"served"),
+            Outcome::Sent => self.prepend("sent"),
+            Outcome::Served => self.prepend("served"),
             Outcome::Delivered(delivered) => self.prepend_delivered(delivered),
             Outcome::Ticked(clock) => {
                 self.prepend_number(u64::from(clock));
-                self.prepend(b"tick ");
+                self.prepend("tick ");
             }
-            Outcome::Evicted => self.prepend(b"evicted"),
-            Outcome::Forgotten => self.prepend(b"forgotten"),
-            Outcome::NoCopy => self.prepend(b"no copy"),
+            Outcome::Evicted => self.prepend("evicted"),
+            Outcome::Forgotten => self.prepend("forgotten"),
+            Outcome::NoCopy => self.prepend("no copy"),
             Outcome::Refused(refusal) => {
-                self.prepend(refusal.text().as_bytes());
-                self.prepend(b" ");
+                self.prepend(refusal.text());
+                self.prepend(" ");
                 self.prepend_number(u64::from(u32::from(refusal)));
-                self.prepend(b"refused ");
+                self.prepend("refused ");
             }
         }
     }

@@ -1,8 +1,7 @@
 //! A script, line by line.
 ghost use Rattle.std.specs.Prelude.{◌≡◌, ◌≤◌, length, take};
 ghost use Rattle.std.specs.Iterator.{YieldsFirst, item_count};
-ghost use Rattle.script.specs.declared.reader.TheConstants.{INPUT_BYTES};
-ghost use Rattle.script.specs.Lines.{script, script_calls};
+ghost use Rattle.script.specs.Lines.{input_bytes, script, script_calls};
 ghost use Rattle.script.specs.Written.{AllBack};
 
 use crate::bytes::cut;
@@ -17,7 +16,7 @@ pub const INPUT_BYTES: usize = 65536;
 /// The first `INPUT_BYTES` bytes, or all where there are fewer.
 #[tactic(auto, using(std::proofs::lemmas::List::take_min))]
 fn limited(input: &[u8]) -> &[u8]
-    ensures { result.now ≡ take INPUT_BYTES input.now }
+    ensures { result.now ≡ take input_bytes input.now }
 {
     &input[..INPUT_BYTES.min(input.len())]
 }
@@ -40,8 +39,8 @@ impl<'a> Model for Reader<'a> {
 impl<'a> Reader<'a> {
     /// Reads the first `INPUT_BYTES` bytes of an input.
     pub fn new(input: &'a [u8]) -> Reader<'a>
-        ensures value { result ≡ take INPUT_BYTES input.now }
-        ensures few { length (script result) ≤ INPUT_BYTES }
+        ensures value { result ≡ take input_bytes input.now }
+        ensures few { length (script result) ≤ input_bytes }
         ensures back { AllBack input.now result }
     {
         Reader {

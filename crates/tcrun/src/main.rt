@@ -7,9 +7,10 @@ use crate::arguments::{Task, task_for};
 use player::board::run;
 use script::reader::INPUT_BYTES;
 use std::alloc::AllocError;
+use std::env::{Env, FillError};
+use std::io;
 use std::io::{ErrorKind, Read, Write};
 use std::process::ExitCode;
-use std::{env, io};
 use thiserror::Error;
 
 const HELP: &str = "Plays a script on a model of Temporal Coherence for graphics processors.
@@ -47,9 +48,28 @@ enum Failure {
     Output(&'static str, io::Error),
 }
 
-/// The script: standard input to its end, or the part of it that is read.
+/// The most bytes of an argument: Linux hands none over that is longer.
+const ARGUMENT_BYTES: usize = 131072;
+
+/// The first argument after the program's name, if there is one. Nothing else is read of the arguments.
+fn first_argument(rt: &HostRuntime) -> Result<Option<String>, Failure> {
+    if let Err(FillError::NotPresent) = rt.arg(1, &mut []) {
+        return Ok(None);
+    }
+    let mut bytes = vec![in rt.alloc(); 0u8; ARGUMENT_BYTES]?;
+    let Ok(len) = rt.arg(1, &mut bytes) else {
+        return Err(Failure::Arguments(io::Error::from(ErrorKind::InvalidInput)));
+    };
+    bytes.truncate(len);
+    match String::from_utf8(bytes) {
+        Ok(argument) => Ok(Some(argument)),
+        Err(_) => Err(Failure::Arguments(io::Error::from(ErrorKind::InvalidData))),
+    }
+}
+
+/// The script: standard input to its end, or the part of it that is read. All its room is reserved first.
 fn script(rt: &HostRuntime) -> Result<Vec<u8>, Failure> {
-    let mut script = Vec::new(rt.alloc());
+    let mut script = Vec::with_capacity(rt.alloc(), INPUT_BYTES)?;
     match rt.stdin().take(INPUT_BYTES as u64).read_to_end(&mut script) {
         Ok(_) => Ok(script),
         Err(error) if error.kind() == ErrorKind::OutOfMemory => Err(Failure::Memory(AllocError)),
@@ -66,9 +86,9 @@ fn print(rt: &HostRuntime, what: &'static str, bytes: &[u8]) -> Result<(), Failu
 
 /// Does what the arguments ask for.
 fn work(rt: &HostRuntime) -> Result<(), Failure> {
-    let first = env::args(rt).map_err(Failure::Arguments)?.nth(1);
+    let first = first_argument(rt)?;
     match task_for(first.as_deref()) {
-        Task::Play => print(rt, "answers", &run(rt.alloc(), &script(rt)?)?),
+        Task::Play => print(rt, "answers", run(rt.alloc(), &script(rt)?)?.as_bytes()),
         Task::Help => print(rt, "help", HELP.as_bytes()),
         Task::Version => print(rt, "version", VERSION.as_bytes()),
         Task::Unknown(argument) => Err(Failure::UnknownArgument(argument.to_string(rt.alloc())?)),

@@ -1,11 +1,10 @@
-use Rattle.std.proofs.Common.{◌≡◌, replicate, rules, refl, length, take, ap, ◌∙◌}
+use Rattle.std.proofs.Common.{◌≡◌, replicate, rules, refl, length, take, string_bytes, ap, ◌∙◌}
 use Rattle.lanes.specs.Rings.{ring_lanes, ring_depth}
 use Rattle.memories.specs.Cells.{word}
 use Rattle.memories.specs.Rows.{row_size, row_cell}
 use Rattle.sizes.specs.declared.TheConstants.{WORDS}
 use Rattle.rules.specs.State.{State}
-use Rattle.script.specs.declared.reader.TheConstants.{INPUT_BYTES}
-use Rattle.script.specs.Lines.{script}
+use Rattle.script.specs.Lines.{input_bytes, script}
 use Rattle.player.proofs.Boards.{zeros, on_board}
 use Rattle.player.proofs.board.run.Goals as goal
 
@@ -26,5 +25,5 @@ returns c =
     (λ k. rw p.requests (c.new-2.ensures.empty k)) (rw (p.requests, c.new-2.ensures.depth, requests) refl)
     (λ k. rw p.answers (c.new-3.ensures.empty k)) (rw (p.answers, c.new-3.ensures.depth, answers) refl)
     (rw (p.memory, c.new-4.ensures.words, words) refl) (λ a. rw (p.memory, c.new-4.ensures.words, words) (ap word (zeros WORDS a)))
-    c.play.new.out.items c.new-out.result.items m.policy.lifetime (script (take INPUT_BYTES c.args.input.now))
-    c.in_ok-play.ensures.bytes c.new-out.ensures.items (rw p.policy c.new-5.ensures)
+    (string_bytes c.play.new.out) (string_bytes c.new-out.result) m.policy.lifetime (script (take input_bytes c.args.input.now))
+    c.in_ok-play.ensures.bytes c.new-out.ensures.bytes (rw p.policy c.new-5.ensures)

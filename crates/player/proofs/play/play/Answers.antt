@@ -1,9 +1,8 @@
-use Rattle.std.proofs.Common.{◌≡◌, ◌+◌, ◌∷◌, [], length, take, ap, ◌∙◌, inl, inr, length-append, arith}
+use Rattle.std.proofs.Common.{◌≡◌, ◌+◌, ◌∷◌, [], length, take, string_bytes, ap, ◌∙◌, inl, inr, length-append, arith}
 use Rattle.std.specs.Iterator.Adapters.{zip_second}
 use Rattle.std.specs.Result.{result_ok}
 use Rattle.machine.specs.View.{view}
-use Rattle.script.specs.declared.reader.TheConstants.{INPUT_BYTES}
-use Rattle.script.specs.Lines.{script}
+use Rattle.script.specs.Lines.{input_bytes, script}
 use Rattle.player.specs.Played.{Begun, line_outcome, read_line_outcome}
 use Rattle.player.proofs.Lines.{as_read, next_line, no_line, only_no_call}
 use Rattle.player.proofs.Longer.{one_added, one_after, more_after, fewer_played, all_taken, on_err}
@@ -42,8 +41,8 @@ returns-in_err-play_and_tell-clause-begun g c =
     let here = zip_second c.loop-number.number-iterator in
     let next = zip_second c.next.new.self in
     let line : script here ≡ result_ok c.in-Some.line ∷ script next = next_line here next c.in-Some.line c.in-Some.ensures.steps.1 in
-    let begun : Begun (view g.Q.LaneNet g.R.LaneNet g.M.Memory c.args.machine.now) c.args.machine.now.policy.lifetime (script (take INPUT_BYTES c.args.input.now))
-    (view g.Q.LaneNet g.R.LaneNet g.M.Memory c.play_and_tell.new.machine) c.args.out.now.items c.play_and_tell.new.out.items = record {
+    let begun : Begun (view g.Q.LaneNet g.R.LaneNet g.M.Memory c.args.machine.now) c.args.machine.now.policy.lifetime (script (take input_bytes c.args.input.now))
+    (view g.Q.LaneNet g.R.LaneNet g.M.Memory c.play_and_tell.new.machine) (string_bytes c.args.out.now) (string_bytes c.play_and_tell.new.out) = record {
       count = n;
       fewer = fewer_played n _ _ _ (c.loop-number.invariant.5 ∙ line);
       text = c.in_err-play_and_tell.ensures.bytes ∙ c.loop-number.invariant.3;
