@@ -1,5 +1,6 @@
 //! The tables of the bank.
-ghost use Rattle.std.specs.Prelude.{◌≡◌, ℕ, ◌<◌, IfOk, IsSome, None, Some, nat_le};
+ghost use Rattle.std.specs.Prelude.{◌≡◌, ℕ, ◌<◌, IfOk, IsSome, None, Some, nat_le, replicate};
+ghost use Rattle.sizes.specs.declared.TheConstants.{WORDS};
 ghost use Rattle.rules.specs.Bank.{fresh_bank, live, line_of, line_count, kept_stamp, stamp_of, with_line, with_kept, with_mark, waited_on};
 
 use rules::record::Line;
@@ -56,16 +57,38 @@ impl Bank {
         })
     }
 
-    /// Empties the bank.
+    /// Empties the bank. Mostly there is nothing to empty, and then no place is gone through.
     pub fn clear(&mut self)
         ensures { self.new ≡ fresh_bank }
     {
-        self.lines.fill(None);
-        self.line_count = 0;
-        self.kept.fill(0);
-        self.kept_count = 0;
+        self.clear_lines();
+        self.clear_kept();
         self.waiting = [None; LANES];
         self.waiting_count = 0;
+    }
+
+    /// Takes all lines away.
+    fn clear_lines(&mut self)
+        ensures lines { self.new.lines ≡ replicate WORDS None }
+        ensures kept { self.new.kept ≡ self.old.kept }
+        ensures waiting { self.new.waiting ≡ self.old.waiting }
+    {
+        if self.line_count != 0 {
+            self.lines.fill(None);
+            self.line_count = 0;
+        }
+    }
+
+    /// Takes all kept stamps away.
+    fn clear_kept(&mut self)
+        ensures lines { self.new.lines ≡ self.old.lines }
+        ensures kept { self.new.kept ≡ replicate WORDS 0 }
+        ensures waiting { self.new.waiting ≡ self.old.waiting }
+    {
+        if self.kept_count != 0 {
+            self.kept.fill(0);
+            self.kept_count = 0;
+        }
     }
 
     /// The line of an address, by its fields, so that no padding is copied.

@@ -1,8 +1,9 @@
-use Rattle.std.proofs.Common.{Some, None, refl}
+use Rattle.std.proofs.Common.{◌≡◌, None, replicate, ap, ◌∙◌}
+use Rattle.sizes.specs.declared.TheConstants.{LANES, WORDS}
 use Rattle.bank.proofs.bank_table.Bank.clear.Goals as goal
 
 pub returns : goal.returns
 returns c =
-    let none = c.fill.ensures.items (elim [ None ↦ λ _. refl | Some x ↦ λ h. absurd h ]) in
-    let zeros = c.fill-2.ensures.items (λ y h. h) in
-    rw (none, zeros, c.self.invariant.lines, c.self.invariant.kept) refl
+    let lines : c.self.inside.lines.items ≡ replicate WORDS None = ap (λ b. b.lines) c.self.view_is ∙ c.clear_kept.ensures.lines ∙ c.clear_lines.ensures.lines in
+    let kept : c.self.inside.kept.items ≡ replicate WORDS 0 = ap (λ b. b.kept) c.self.view_is ∙ c.clear_kept.ensures.kept in
+    λ i. record { lines = lines i; kept = kept i; waiting = replicate LANES None }
