@@ -61,10 +61,9 @@ fn first_argument(rt: &HostRuntime) -> Result<Option<String>, Failure> {
         return Err(Failure::Arguments(io::Error::from(ErrorKind::InvalidInput)));
     };
     bytes.truncate(len);
-    match String::from_utf8(bytes) {
-        Ok(argument) => Ok(Some(argument)),
-        Err(_) => Err(Failure::Arguments(io::Error::from(ErrorKind::InvalidData))),
-    }
+    String::from_utf8(bytes).map(Some).map_err(|_| Failure::Arguments(io::Error::from(
+        ErrorKind::InvalidData,
+    )))
 }
 
 /// The script: standard input to its end, or the part of it that is read. All its room is reserved first.
