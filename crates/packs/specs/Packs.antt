@@ -4,6 +4,10 @@ use Rattle.sizes.specs.declared.TheConstants.{LANES}
 use Rattle.messages.specs.declared.form.FiveWords as form
 use Rattle.packs.specs.declared.packed.Packed.{Packed}
 
+-- how many messages a packed lane takes
+abbrev pub pack_depth : ℕ
+pack_depth = 8
+
 abbrev pub before : {A : Type 0} → Option A → List A → List A
 before (Some m) ms = m ∷ ms
 before None ms = []

@@ -1,7 +1,7 @@
 //! Messages stored as their words.
 ghost use Rattle.std.specs.Prelude.{◌≡◌, ℕ, ◌-◌, ◌^◌, [], length, min};
 ghost use Rattle.packs.specs.PackLaws.{pack_bare, pack_shallow};
-ghost use Rattle.packs.specs.Packs.{pack_lanes};
+ghost use Rattle.packs.specs.Packs.{pack_depth, pack_lanes};
 
 use crate::lane::Lane;
 use lanes::net::{LaneError, LaneNet};
@@ -34,7 +34,7 @@ impl<M: FiveWords + Drop> Packed<M> {
 impl<M: FiveWords + Drop> LaneNet<M> for Packed<M> {
     ghost lanes = { λ s. pack_lanes M.FiveWords s };
 
-    ghost depth = { λ _. 8 };
+    ghost depth = { λ _. pack_depth };
 
     ghost Loan = { Unit {0} };
 

@@ -2,7 +2,7 @@
 use Rattle.std.proofs.Common.{arith}
 use Rattle.std.proofs.lemmas.Bool.Decides.{nat_tests}
 use Rattle.rules.specs.Stamps.{runs}
-use Rattle.rules.specs.StampLaws.{StampLaws}
+use Rattle.rules.specs.StampLaws.{RunsOnItsTick, StampLaws}
 
 pub laws : StampLaws
 unfolding runs
@@ -12,3 +12,7 @@ laws = record {
   bound = λ stamp clock h. grind (arith, nat_tests);
   never = λ clock h. grind (arith, nat_tests);
 }
+
+pub choice : RunsOnItsTick
+unfolding runs
+choice = λ stamp. grind (arith, nat_tests)

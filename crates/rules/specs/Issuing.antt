@@ -1,5 +1,5 @@
 -- What a core does by itself: issuing loads, stores and atomics, and forgetting a copy.
-use Rattle.std.specs.Prelude.{ℕ, Bool, List, [], ◌∷◌, length, Some, None, Option, Result, nat_le}
+use Rattle.std.specs.Prelude.{ℕ, Bool, [], ◌∷◌, length, Some, None, Option, Result, nat_le}
 use Rattle.sizes.specs.declared.TheConstants.{PENDING_REQUESTS}
 use Rattle.messages.specs.declared.request.Request.{Request}
 use Rattle.messages.specs.declared.request.Request.TheVariants as request

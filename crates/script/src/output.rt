@@ -72,6 +72,7 @@ impl OutputLine {
     pub fn as_str(&self) -> &str
         ensures { result.now ≡ self.now }
     {
+        // That these bytes are UTF-8 is the line's invariant.
         unsafe { str::from_utf8_unchecked(bytes_from(&self.bytes, self.start)) }
     }
 

@@ -34,7 +34,9 @@ pub const LONGEST_LIFETIME: u32 = 4096;
 /// The clock's last tick. A lease of the longest lifetime from it ends at the largest stamp, 2^32 - 1.
 pub const LAST_TICK: u32 = 4294963199;
 
-/// The sizes are the numbers that the rules name.
+/// Each size is the number that the rules name: 16 lanes of at most 64 messages, 48 waves, 64 places for copies and 32
+/// pending requests a core, 256 lines, 128 kept stamps, 4,096 words, lifetimes of at most 4,096 ticks, and
+/// 4,294,963,199 as the last tick.
 pub fn numbers()
     ensures { Numbers }
 {}

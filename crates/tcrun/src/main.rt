@@ -51,6 +51,11 @@ enum Failure {
 /// The most bytes of an argument: Linux hands none over that is longer.
 const ARGUMENT_BYTES: usize = 131072;
 
+/// Why an argument cannot be read.
+fn unreadable(kind: ErrorKind) -> Failure {
+    Failure::Arguments(io::Error::from(kind))
+}
+
 /// The first argument after the program's name, if there is one. Nothing else is read of the arguments.
 fn first_argument(rt: &HostRuntime) -> Result<Option<String>, Failure> {
     if let Err(FillError::NotPresent) = rt.arg(1, &mut []) {
@@ -58,12 +63,12 @@ fn first_argument(rt: &HostRuntime) -> Result<Option<String>, Failure> {
     }
     let mut bytes = vec![in rt.alloc(); 0u8; ARGUMENT_BYTES]?;
     let Ok(len) = rt.arg(1, &mut bytes) else {
-        return Err(Failure::Arguments(io::Error::from(ErrorKind::InvalidInput)));
+        return Err(unreadable(ErrorKind::InvalidInput));
     };
     bytes.truncate(len);
-    String::from_utf8(bytes).map(Some).map_err(|_| Failure::Arguments(io::Error::from(
-        ErrorKind::InvalidData,
-    )))
+    String::from_utf8(bytes)
+        .map(Some)
+        .map_err(|_| unreadable(ErrorKind::InvalidData))
 }
 
 /// The script: standard input to its end, or the part of it that is read. All its room is reserved first.
